@@ -1,0 +1,5 @@
+pub mod Kinds
+pub mod Concatenations
+pub mod Mirrors
+pub mod FakeWorms
+pub mod Edges
