@@ -1,15 +1,14 @@
 -- What a disc's storage means, before and after a block is stored.
 use mathlib.Core.Path.{_≡_, refl, sym, ap, _∙_}
-use mathlib.Core.List.{List, [], _∷_, _++_, map}
+use mathlib.Core.List.{List, _∷_, _++_, map}
 use mathlib.Core.Bool.{Bool, true, false, cond}
 use mathlib.Core.Logic.{_⊎_, ⊎-elim}
-use Prim.Native.Nat.{ℕ, _<_, _≤_, _+_, _*_, _-_, _/_, min}
+use Prim.Native.Nat.{ℕ, _<_, _≤_, _+_, _*_, _/_, min}
 use lib.ListN.{length, getD, set, take, drop}
 use lib.Dec.{eqb}
 use native.Mathlib.Omega.{arith}
 use borrow.Rule.Slice.PartMut.{putMid}
 use Rattle.std.specs.Iters.{counting}
-use Rattle.std.specs.Holes.{between}
 use Rattle.std.proofs.shelf.Lists.{length-take, length-take-le, length-drop, length-append, take-more-set, drop-set-lt, append-assoc, drop-at, drop-drop, drop-take, take-at, getD-take, getD-drop}
 use Rattle.std.proofs.shelf.Parts.{take-putMid-below, drop-putMid}
 use Rattle.std.proofs.shelf.Tests.{cases-order}
@@ -18,8 +17,8 @@ use Rattle.device.proofs.Tables.{table-at, table-set}
 use Rattle.device.specs.declared.interface.Kind.{Kind}
 use Rattle.device.specs.declared.interface.Kind.the-variants.{Rewritable, WriteOnce}
 use Rattle.device.specs.declared.cell_state.CellState.the-variants.{Held}
-use Rattle.device.specs.Meaning.{Cell, blank, held, spoiled, Meaning, size, cell, put, Sound, Legal}
-use Rattle.device.specs.Calls.{stateOf, contents}
+use Rattle.device.specs.Meaning.{held, spoiled, size, cell, put, Sound, Legal}
+use Rattle.device.specs.Calls.{stateOf}
 use Rattle.device.specs.Storage.{discSize, zeroCell, cellFrom, discCell, discMeaning, placeOn, stored}
 
 legal-from : (k : Kind) (s : ℕ) (bytes : List ℕ) → length bytes ≡ 512 → Legal k (cellFrom k s bytes)

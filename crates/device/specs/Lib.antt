@@ -3,3 +3,4 @@ pub mod Meaning
 pub mod Calls
 pub mod Storage
 pub mod Laws
+pub mod Vectors

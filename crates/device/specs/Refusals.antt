@@ -4,7 +4,6 @@ use Prim.Native.Nat.{ℕ}
 use lib.Dec.{eqb, ltb}
 use Rattle.std.specs.declared.result.Result.{Result}
 use Rattle.std.specs.declared.result.Result.the-variants.{Ok, Err}
-use Rattle.device.specs.declared.fault.Place.{Place}
 use Rattle.device.specs.declared.fault.DeviceFault.{DeviceFault}
 use Rattle.device.specs.declared.fault.DeviceFault.the-variants.{BadBuffer, PastEnd, Blank, AlreadyHeld, Spoiled}
 

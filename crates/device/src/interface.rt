@@ -4,6 +4,7 @@ ghost use Rattle.device.specs.Meaning.{Meaning, Sound, size as blocks};
 ghost use Rattle.device.specs.Calls.{Reads, Writes};
 use crate::fault::DeviceFault;
 use crate::fault::Place;
+use std::fmt;
 
 /// The most blocks of a device.
 pub const MOST_BLOCKS: u32 = 65_536;
@@ -15,6 +16,17 @@ pub enum Kind {
     Rewritable,
     /// A blank block may be written once.
     WriteOnce,
+}
+
+pub impl fmt::Display for Kind as KindDisplay {
+    fn fmt<W: fmt::Write>(&self, f: &mut fmt::Formatter<W>) -> fmt::Result {
+        f.write_str(
+            match self {
+                Kind::Rewritable => "rewritable",
+                Kind::WriteOnce => "write-once",
+            },
+        )
+    }
 }
 
 /// A device of at most 65,536 blocks of 512 bytes.

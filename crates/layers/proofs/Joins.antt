@@ -1,6 +1,6 @@
 -- What two devices end to end have of each.
-use mathlib.Core.Path.{_≡_, refl, sym, ap, _∙_, subst}
-use mathlib.Core.Bool.{Bool, true, false, cond, _&&_}
+use mathlib.Core.Path.{_≡_, refl, sym, ap, _∙_}
+use mathlib.Core.Bool.{Bool, true, false, cond}
 use mathlib.Core.List.{List, [], _++_}
 use mathlib.Core.Logic.{⊎-elim}
 use Prim.Native.Nat.{ℕ, _<_, _≤_, _+_, _-_}
@@ -10,10 +10,8 @@ use native.Mathlib.Omega.{arith}
 use Rattle.std.specs.Results.{isOk}
 use Rattle.std.proofs.shelf.Lists.{length-append, length-set, getD-append-left, getD-append-right, set-append-left, set-append-right}
 use Rattle.std.proofs.shelf.Tests.{lt-ltb, le-ltb, leb-true, and-parts, cases-lt, cases-bool}
-use Rattle.device.specs.declared.fault.Place.{Place}
-use Rattle.device.specs.declared.interface.Kind.{Kind}
 use Rattle.device.specs.Refusals.{Answer}
-use Rattle.device.specs.Meaning.{Cell, held, spoiled, Meaning, size, cell, put, Sound, Legal}
+use Rattle.device.specs.Meaning.{held, spoiled, Meaning, size, cell, put, Sound, Legal}
 use Rattle.device.specs.Calls.{Reads, Writes}
 use Rattle.device.proofs.Calls.{read-below, write-below}
 use Rattle.layers.specs.Kinds.{sameKind}

@@ -1,11 +1,11 @@
 -- What two devices side by side have of each.
 use mathlib.Core.Path.{_≡_, refl, sym, ap, _∙_, subst}
-use mathlib.Core.Bool.{Bool, true, false, cond, _&&_}
+use mathlib.Core.Bool.{Bool, true, false, cond}
 use mathlib.Core.List.{List}
 use Prim.Native.Nat.{ℕ, _<_, _≤_, min}
 use lib.ListN.{length}
 use native.Mathlib.Omega.{arith}
-use Rattle.std.specs.Results.{isOk, ErrBy}
+use Rattle.std.specs.Results.{ErrBy}
 use Rattle.std.specs.declared.result.Result.the-variants.{Ok, Err}
 use Rattle.std.proofs.shelf.Counted.{length-map-counting}
 use Rattle.device.specs.declared.fault.Place.{Place}
@@ -18,11 +18,11 @@ use Rattle.device.specs.Refusals.{Answer, Outcome, shown, told}
 use Rattle.device.specs.Meaning.{Cell, blank, held, spoiled, Meaning, size, cell, put, Sound, Legal}
 use Rattle.device.specs.Calls.{stateOf, stateTold, readState, writeState, contents, Reads, Writes}
 use Rattle.device.proofs.Tables.{table-at, table-set}
-use Rattle.device.proofs.Calls.{read-out, read-in, read-state, write-out, write-in, write-refused, passed}
+use Rattle.device.proofs.Calls.{read-out, read-in, read-state, write-out, write-in, write-refused}
 use Rattle.layers.specs.Kinds.{sameKind}
 use Rattle.layers.specs.Mirrors.{mirrorCell, mirrorState, mirrorSize, mirrorAt, mirror, intact, sideAfter, SideWrites}
 use Rattle.layers.proofs.KindTests.{same-kind}
-use Rattle.layers.proofs.Touches.{Touched, touched, accepted}
+use Rattle.layers.proofs.Touches.{touched, accepted}
 
 -- of two cells
 

@@ -1,10 +1,7 @@
-use mathlib.Core.Path.{refl, sym, ap, _∙_}
-use mathlib.Core.Bool.{cond}
+use mathlib.Core.Path.{sym, ap, _∙_}
 use Prim.Native.Nat.{_<_}
-use native.Mathlib.Omega.{arith}
-use Rattle.std.specs.Results.{isOk}
 use Rattle.device.specs.Calls.{stateOf, writeState}
-use Rattle.device.specs.Storage.{discMeaning, discSize, placeOn, stored}
+use Rattle.device.specs.Storage.{discMeaning, discSize, placeOn}
 use Rattle.device.proofs.Calls.{admitted, passed, write-barred, write-refused, write-in}
 use Rattle.device.proofs.Storages.{disc-size, disc-cell, disc-put}
 use Rattle.device.proofs.disc.write_storage.Needs as need

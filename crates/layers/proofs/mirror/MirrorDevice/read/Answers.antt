@@ -1,7 +1,6 @@
-use mathlib.Core.Path.{refl, sym, ap, _∙_}
-use Rattle.device.specs.Calls.{readState}
+use mathlib.Core.Path.{refl, sym, _∙_}
 use Rattle.device.proofs.Calls.{admitted}
-use Rattle.layers.specs.Mirrors.{meaningOf, mirrorState}
+use Rattle.layers.specs.Mirrors.{meaningOf}
 use Rattle.layers.proofs.Sides.{mirror-read-first, mirror-read-second}
 use Rattle.layers.proofs.mirror.MirrorDevice.read.Needs as need
 
