@@ -1,0 +1,2 @@
+pub mod Everys
+pub mod Pieces

@@ -1,0 +1,7 @@
+pub mod Names
+pub mod Paths
+pub mod Trees
+pub mod Operations
+pub mod Refusals
+pub mod Histories
+pub mod Books
