@@ -5,3 +5,4 @@ pub mod Operations
 pub mod Refusals
 pub mod Histories
 pub mod Books
+pub mod Laws
