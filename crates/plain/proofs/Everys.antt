@@ -15,6 +15,10 @@ module _ {X : Type 0} (f : X → Bool) where
   every-append [] ys p q = q
   every-append (x ∷ xs) ys p q = grind (arith, every-append xs ys)
 
+  pub every-last : (xs : List X) (y : X) → every f (xs ++ y ∷ []) ≡ true → f y ≡ true
+  every-last [] y e = and-parts (f y) true e .0
+  every-last (x ∷ xs) y e = every-last xs y (and-parts (f x) (every f (xs ++ y ∷ [])) e .1)
+
   -- a loop over the elements: one more that passes, and one that does not
   pub every-more : (xs : List X) (i : ℕ) (d : X) → i < length xs → every f (take i xs) ≡ true → f (getD xs i d) ≡ true → every f (take (i + 1) xs) ≡ true
   every-more xs i d h p q = rw (take-more xs i d h) (every-append (take i xs) (getD xs i d ∷ []) p (and-from _ _ q refl))

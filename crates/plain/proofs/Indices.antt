@@ -73,3 +73,31 @@ module _ {X : Type 0} (f : X → Bool) (d : X) where
           getD (x ∷ (xs ++ ys)) (cond t 0 (suc (index f (xs ++ ys)))) d ≡ getD (x ∷ xs) (cond t 0 (suc (index f xs))) d
       by true h = refl
       by false h = h
+
+  -- where none passes, the first is past the end
+  pub index-none : (xs : List X) → passing f xs ≡ 0 → index f xs ≡ length xs
+  index-none [] none = refl
+  index-none (x ∷ xs) none = by (f x) none (index-none xs)
+    where
+      by : (t : Bool) → cond t 1 0 + passing f xs ≡ 0 → (passing f xs ≡ 0 → index f xs ≡ length xs) → cond t 0 (suc (index f xs)) ≡ suc (length xs)
+      by true none g = absurd (omega arith)
+      by false none g = ap suc (g (omega arith))
+
+  pub passing-append : (xs ys : List X) → passing f (xs ++ ys) ≡ passing f xs + passing f ys
+  passing-append [] ys = omega arith
+  passing-append (x ∷ xs) ys = omega (arith, passing-append xs ys)
+
+  -- one element changes
+  pub passing-set : (xs : List X) (i : ℕ) (p : X) → i < length xs → passing f (set xs i p) + cond (f (getD xs i d)) 1 0 ≡ passing f xs + cond (f p) 1 0
+  passing-set [] i p h = absurd (omega arith)
+  passing-set (x ∷ xs) zero p h = omega arith
+  passing-set (x ∷ xs) (suc i) p h = omega (arith, passing-set xs i p (omega arith))
+
+  -- an element that passes is not before the first
+  pub index-at-most : (xs ys : List X) (y : X) → f y ≡ true → index f (xs ++ y ∷ ys) ≤ length xs
+  index-at-most [] ys y e = rw e (omega arith)
+  index-at-most (x ∷ xs) ys y e = by (f x) (index-at-most xs ys y e)
+    where
+      by : (t : Bool) → index f (xs ++ y ∷ ys) ≤ length xs → cond t 0 (suc (index f (xs ++ y ∷ ys))) ≤ suc (length xs)
+      by true h = omega arith
+      by false h = omega arith

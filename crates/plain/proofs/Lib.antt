@@ -5,3 +5,7 @@ pub mod Rows
 pub mod Walking
 pub mod Changes
 pub mod WriteLaw
+pub mod Filling
+pub mod Tidiness
+pub mod MakeLaw
+pub mod RemoveLaw

@@ -1,5 +1,5 @@
 -- How a text of names comes apart at its slashes.
-use mathlib.Core.Path.{_≡_, refl, sym, ap, _∙_}
+use mathlib.Core.Path.{_≡_, refl, sym, ap, _∙_, subst}
 use mathlib.Core.Bool.{Bool, true, false, cond, not, _&&_}
 use mathlib.Core.List.{List, [], _∷_, _++_}
 use mathlib.Core.Logic.{_⊎_, inl, inr, ⊎-elim}
@@ -11,7 +11,7 @@ use Rattle.std.specs.Options.{isSome, mapped}
 use Rattle.std.specs.declared.option.Option.{Option}
 use Rattle.std.specs.declared.option.Option.the-variants.{Some, None}
 use Rattle.std.proofs.shelf.Lists.{length-append, length-take, length-drop, drop-at, drop-all, drop-drop, drop-more}
-use Rattle.std.proofs.shelf.Tests.{and-parts, and-from, eq-eqb, ne-eqb, eqb-true, leb-true}
+use Rattle.std.proofs.shelf.Tests.{and-parts, and-from, and-left, eq-eqb, ne-eqb, eqb-true, le-leb, leb-true}
 use Rattle.plain.specs.Names.{every, isName, nameByte}
 use Rattle.plain.specs.Paths.{onto, pieces, firstPiece, nameEnd, namesIn, atMostEight, isRoot, pathOf, namesText, pathText}
 
@@ -211,3 +211,50 @@ pub count-more : (k : ℕ) (n : List ℕ) (o : Option (List (List ℕ))) →
     mapped (λ j. k + j) (mapped length (mapped (λ l. n ∷ l) o)) ≡ mapped (λ j. k + 1 + j) (mapped length o)
 count-more k n None = refl
 count-more k n (Some ns) = ap Some (omega arith)
+
+-- the names of a path are legal, at most eight, and their text is the path's
+pub record IsPath (text : List ℕ) (ns : List (List ℕ)) : Type 0 where
+  pub legal : every isName ns ≡ true
+  pub few : length ns ≤ 8
+  pub shown : pathText ns ≡ text
+
+pub path-is : (text : List ℕ) (ns : List (List ℕ)) → pathOf text ≡ Some ns → IsPath text ns
+path-is text ns is = by text (isRoot text) refl is
+  where
+    root : (text : List ℕ) → isRoot text ≡ true → text ≡ 47 ∷ []
+    root [] e = cc
+    root (x ∷ []) e = ap (λ b. b ∷ []) (eqb-true x 47 (and-parts (eqb x 47) true e .0))
+    root (x ∷ y ∷ l) e = absurd (omega (arith, eqb-true (length (x ∷ y ∷ l)) 1 (and-parts (eqb (length (x ∷ y ∷ l)) 1) _ e .0)))
+
+    some : (ps : List (List ℕ)) (t : Bool) → cond t (Some ps) None ≡ Some ns → (t ≡ true) × (ps ≡ ns)
+    some ps true e = (refl, cc)
+    some ps false e = (cc, cc)
+
+    names : (text : List ℕ) → atMostEight (namesIn text) ≡ Some ns → IsPath text ns
+    names [] e = let z : _≡_ {A = ℕ} 0 1 = cc in absurd (omega arith)
+    names (b ∷ bs) e = go (eqb b 47) refl (every isName (pieces bs)) refl e
+      where
+        go : (s : Bool) → eqb b 47 ≡ s → (t : Bool) → every isName (pieces bs) ≡ t → atMostEight (cond (s && t) (Some (pieces bs)) None) ≡ Some ns → IsPath (b ∷ bs) ns
+        go true f true g e =
+            let p = some (pieces bs) _ e in
+            let n = and-parts (leb 1 (length (pieces bs))) (leb (length (pieces bs)) 8) (p .0) in
+            let text : pathText (pieces bs) ≡ b ∷ bs = ap pathText (pieces-are bs) ∙ sym (ap namesText (pieces-are bs)) ∙ pieces-text bs ∙ ap (λ x. x ∷ bs) (sym (eqb-true b 47 f)) in
+            subst (IsPath (b ∷ bs)) (p .1) (record { legal = g; few = leb-true _ _ (n .1); shown = text })
+        go true f false g e = let z : _≡_ {A = ℕ} 0 1 = cc in absurd (omega arith)
+        go false f t g e = let z : _≡_ {A = ℕ} 0 1 = cc in absurd (omega arith)
+
+    by : (text : List ℕ) (t : Bool) → isRoot text ≡ t → cond t (Some []) (atMostEight (namesIn text)) ≡ Some ns → IsPath text ns
+    by text true e is = let n : [] ≡ ns = cc in subst (IsPath text) n (record { legal = refl; few = omega arith; shown = sym (root text e) })
+    by text false e is = names text is
+
+-- the path that names are
+pub path-back : (ns : List (List ℕ)) → every isName ns ≡ true → length ns ≤ 8 → pathOf (pathText ns) ≡ Some ns
+path-back [] h few = refl
+path-back (n ∷ ns) h few =
+    let p = and-parts (isName n) (every isName ns) h in
+    let q = and-parts _ (every nameByte n) (p .0) in
+    let long = leb-true 1 (length n) (and-parts (leb 1 (length n)) (leb (length n) 27) (q .0) .0) in
+    let two : isRoot (namesText (n ∷ ns)) ≡ false = and-left (eqb (length (namesText (n ∷ ns))) 1) _ (ne-eqb _ 1 (λ e. omega (arith, e, long, length-append n (namesText ns)))) in
+    let most : leb (length (n ∷ ns)) 8 ≡ true = le-leb _ _ few in
+    let least : leb 1 (length (n ∷ ns)) ≡ true = le-leb _ _ (omega arith) in
+    rw two (rw (text-names (n ∷ ns) h) (rw (least, most)))

@@ -81,7 +81,7 @@ module _ {W : Type 0} where
   walk-free [] = refl
   walk-free (n ∷ ns) = walk-free ns
 
-  walk-flat : (ns : List (List ℕ)) (l : Leaf W) (m : List ℕ) (d : Dir) (w : W) (c : Places W) → walk ns (flat l) ≡ deep m d w c → ⊥
+  pub walk-flat : (ns : List (List ℕ)) (l : Leaf W) (m : List ℕ) (d : Dir) (w : W) (c : Places W) → walk ns (flat l) ≡ deep m d w c → ⊥
   walk-flat [] l m d w c e = let z : _≡_ {A = ℕ} 0 1 = cc in omega arith
   walk-flat (n ∷ ns) l m d w c e = let g = walk-free ns in let z : _≡_ {A = ℕ} 0 1 = cc in omega arith
 

@@ -11,13 +11,15 @@ use Rattle.std.specs.declared.option.Option.{Option}
 use Rattle.std.specs.declared.option.Option.the-variants.{Some, None}
 use Rattle.std.specs.declared.result.Result.{Result}
 use Rattle.std.specs.declared.result.Result.the-variants.{Ok, Err}
-use Rattle.std.proofs.shelf.Lists.{length-append, length-take, length-take-le, take-at, take-take, take-append-le, drop-at, drop-drop}
+use Rattle.std.proofs.shelf.Lists.{length-append, length-take, length-drop, length-take-le, take-at, drop-at, drop-drop}
 use Rattle.std.proofs.shelf.Tests.{and-parts, leb-true}
+use Rattle.plain.specs.Names.{isName}
 use Rattle.plain.specs.Paths.{pathOf, front, final}
-use Rattle.plain.specs.Trees.{File, Dir, free, file, Place, flat, deep, at, setAt, find, size, hasName, nameAt, walk, Tree, Plain, rootPlace}
+use Rattle.plain.specs.Trees.{File, Dir, free, file, Place, flat, deep, at, setAt, find, size, hasName, nameAt, walk, Tree, rootPlace, slash}
 use Rattle.plain.specs.Operations.{write, writeOn, writeAt, written, writable, putFile, inside}
-use Rattle.plain.specs.Laws.{aFile, aDir, sight, see, namesAt, Wrote}
+use Rattle.plain.specs.Laws.{aFile, aDir, sight, see, namesAt, Wrote, Tidy}
 use Rattle.plain.proofs.Walking.{same-name, self-name, other-name, found-other, found-new, found-within, names-same, walk-free}
+use Rattle.plain.proofs.Tidiness.{TidyPlace, tidy-at, tidy-set, tidy-same, tidy-walk, tidy-modify}
 use Rattle.plain.proofs.Changes.{front-final, Home, home, see-in, see-home, saw-home, see-others}
 
 -- an accepted write is of a file at a path of names
@@ -80,6 +82,9 @@ module _ (off : ℕ) (input bytes : List ℕ) (h : off ≤ length bytes) where
 within-end : (off : ℕ) (input : List ℕ) (f : File) → writable off input f ≡ true → off ≤ length (f .bytes)
 within-end off input f e = grind (arith, and-parts, leb-true)
 
+short-end : (off : ℕ) (input : List ℕ) (f : File) → writable off input f ≡ true → off + length input ≤ 66528
+short-end off input f e = grind (arith, and-parts, leb-true)
+
 pub write-law : (path : List ℕ) (off : ℕ) (input : List ℕ) (t t′ : Tree) → write path off input t ≡ Ok t′ → (ns : List (List ℕ)) × (pathOf path ≡ Some ns) × Wrote ns off input t t′
 write-law path off input t t′ ok = let w = accepted-write path off input t t′ ok in (w .ns ++ w .n ∷ [], w .path-is, wrote w)
   where
@@ -115,3 +120,28 @@ write-law path off input t t′ ok = let w = accepted-write path off input t t�
               ∙ ap (λ l. see l t) (sym e));
           next = refl;
         })
+
+-- a write keeps a tidy tree tidy
+pub write-tidy : (path : List ℕ) (off : ℕ) (input : List ℕ) (t t′ : Tree) → Tidy t → write path off input t ≡ Ok t′ → Tidy t′
+write-tidy path off input t t′ tidy ok =
+    let w = accepted-write path off input t t′ ok in
+    let f = w .before in
+    let g = written off input f in
+    let h = home (w .ns) (w .n) t _ (w .at-path) (λ e. let z : _≡_ {A = ℕ} 0 1 = cc in omega arith) in
+    let c = h .places in
+    let i = find (w .n) c in
+    let p = flat (file (w .n) g tt) in
+    let v = found-within (w .n) c (λ e. let y : flat (file (w .label) f tt) ≡ flat free = sym (h .there) ∙ e in let z : _≡_ {A = ℕ} 0 1 = cc in omega arith) in
+    let label : w .n ≡ w .label = same-name _ _ (ap (hasName (w .n)) (sym (h .there)) ∙ v .1) in
+    let b = tidy-walk (w .ns) slash (t .root) (t .places) (h .name) (h .head) c (h .leads) (tidy .here) (tidy .below) in
+    let old : TidyPlace (flat (file (w .label) f tt)) = subst TidyPlace (h .there) (tidy-at c i (b .1)) in
+    let new : TidyPlace p = (ap isName label ∙ old .0, long off input f (w .fits) (old .1)) in
+    let dir = tidy-same c i p (v .0) (λ x. ap (sameBytes x) label ∙ ap (hasName x) (sym (h .there))) (b .0) in
+    let m = tidy-modify (putFile (w .n) g) (w .ns) slash (t .root) (t .places) (h .name) (h .head) c (h .leads) (tidy .here) (tidy .below) dir (tidy-set c i p (b .1) new) in
+    subst Tidy (sym (w .is)) (record { here = m .0; below = m .1 })
+  where
+    long : (off : ℕ) (input : List ℕ) (f : File) → writable off input f ≡ true → length (f .bytes) ≤ 66528 → length (written off input f .bytes) ≤ 66528
+    long off input f e few =
+        let a = within-end off input f e in
+        let b = short-end off input f e in
+        simp (length-append, length-take, length-drop) (omega arith)
