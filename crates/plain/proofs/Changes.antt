@@ -58,8 +58,8 @@ module _ (ns : List (List ℕ)) (n : List ℕ) (t : Tree) (q : ℕ) (m : List �
         from x (y ∷ r) not-n =
             ⊎-elim
             (λ (e : sameBytes x n ≡ true).
-                let x-is = same-name x n e in
-                ap (λ z. sight (walk (y ∷ r) (at (f c) (find z (f c))))) x-is ∙ deeper y r ∙ ap (λ z. sight (walk (y ∷ r) (at c (find z c)))) (sym x-is))
+            let x-is = same-name x n e in
+            ap (λ z. sight (walk (y ∷ r) (at (f c) (find z (f c))))) x-is ∙ deeper y r ∙ ap (λ z. sight (walk (y ∷ r) (at c (find z c)))) (sym x-is))
             (λ (e : sameBytes x n ≡ false). ap (λ p. sight (walk (y ∷ r) p)) (alike x (apart-name x n e)))
             (cases-bool (sameBytes x n))
 

@@ -30,13 +30,13 @@ grown-more : (y : Spot) (ys : List Spot) → isFreePlace y ≡ false → grown (
 grown-more y ys e =
     ⊎-elim
     (λ (h : index isFreePlace ys < length ys).
-        let a = lt-ltb (index isFreePlace ys) (length ys) h in
-        let b = lt-ltb (suc (index isFreePlace ys)) (suc (length ys)) (omega arith) in
-        simp (e, a, b))
+    let a = lt-ltb (index isFreePlace ys) (length ys) h in
+    let b = lt-ltb (suc (index isFreePlace ys)) (suc (length ys)) (omega arith) in
+    simp (e, a, b))
     (λ (h : length ys ≤ index isFreePlace ys).
-        let a = le-ltb (index isFreePlace ys) (length ys) h in
-        let b = le-ltb (suc (index isFreePlace ys)) (suc (length ys)) (omega arith) in
-        simp (e, a, b))
+    let a = le-ltb (index isFreePlace ys) (length ys) h in
+    let b = le-ltb (suc (index isFreePlace ys)) (suc (length ys)) (omega arith) in
+    simp (e, a, b))
     (cases-lt (index isFreePlace ys) (length ys))
 
 set-lowest : (xs : List Spot) (x : Spot) → set (grown xs) (index isFreePlace (grown xs)) x ≡ lowest xs x

@@ -9,3 +9,4 @@ pub mod Filling
 pub mod Tidiness
 pub mod MakeLaw
 pub mod RemoveLaw
+pub mod Seen

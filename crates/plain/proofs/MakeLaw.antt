@@ -90,26 +90,26 @@ module _ (c : Plain) where
   roomy-found x =
       by-room (λ k. at k (find x k) ≡ at c (find x c)) (λ h. refl)
       (λ h.
-          found x (append c (frees 7))
-          ∙ ap (λ r. getD r (index (hasName x) r) (flat free)) (row-append c (frees 7))
-          ∙ index-more (hasName x) (flat free) (row c) (row (frees 7)) (frees-passing x 7)
-          ∙ sym (found x c))
+      found x (append c (frees 7))
+      ∙ ap (λ r. getD r (index (hasName x) r) (flat free)) (row-append c (frees 7))
+      ∙ index-more (hasName x) (flat free) (row c) (row (frees 7)) (frees-passing x 7)
+      ∙ sym (found x c))
 
   pub roomy-named : (x : List ℕ) → named x (roomy c) ≡ named x c
   roomy-named x =
       by-room (λ k. named x k ≡ named x c) (λ h. refl)
       (λ h.
-          row-named x (append c (frees 7))
-          ∙ ap (passing (hasName x)) (row-append c (frees 7))
-          ∙ omega (arith, passing-append (hasName x) (flat free) (row c) (row (frees 7)), frees-passing x 7, row-named x c))
+      row-named x (append c (frees 7))
+      ∙ ap (passing (hasName x)) (row-append c (frees 7))
+      ∙ omega (arith, passing-append (hasName x) (flat free) (row c) (row (frees 7)), frees-passing x 7, row-named x c))
 
   pub roomy-free : firstFree (roomy c) < size (roomy c)
   roomy-free =
       by-room (λ k. firstFree k < size k) (λ h. h)
       (λ h.
-          let r = row-append c (frees 7) in
-          let a = index-at-most isFreePlace (flat free) (row c) (row (frees 6)) (flat free) refl in
-          omega (arith, a, row-free (append c (frees 7)), row-size (append c (frees 7)), ap length r, ap (index isFreePlace) r, length-append (row c) (row (frees 7))))
+      let r = row-append c (frees 7) in
+      let a = index-at-most isFreePlace (flat free) (row c) (row (frees 6)) (flat free) refl in
+      omega (arith, a, row-free (append c (frees 7)), row-size (append c (frees 7)), ap length r, ap (index isFreePlace) r, length-append (row c) (row (frees 7))))
 
   -- what is in the lowest empty place
   pub roomy-empty : at (roomy c) (firstFree (roomy c)) ≡ flat free
@@ -137,11 +137,11 @@ roomy-size : (c : Plain) → TidyDir c → (used c ≡ 42 → ⊥) → (size (ro
 roomy-size c t room =
     by-room c (λ k. (size k % 7 ≡ 0) × (size k ≤ 42)) (λ h. (t .sevens, t .few))
     (λ h.
-        let n : size (append c (frees 7)) ≡ size c + 7 = row-size (append c (frees 7)) ∙ ap length (row-append c (frees 7)) ∙ omega (arith, length-append (row c) (row (frees 7)), row-size c) in
-        let small : size c ≡ 42 → ⊥ = λ e. room (all-used c h ∙ e) in
-        let s = t .sevens in
-        let f = t .few in
-        (omega (arith, n, s), omega (arith, n, s, f, small)))
+    let n : size (append c (frees 7)) ≡ size c + 7 = row-size (append c (frees 7)) ∙ ap length (row-append c (frees 7)) ∙ omega (arith, length-append (row c) (row (frees 7)), row-size c) in
+    let small : size c ≡ 42 → ⊥ = λ e. room (all-used c h ∙ e) in
+    let s = t .sevens in
+    let f = t .few in
+    (omega (arith, n, s), omega (arith, n, s, f, small)))
 
 roomy-below : (c : Plain) → TidyBelow c → TidyBelow (roomy c)
 roomy-below c t = by-room c TidyBelow (λ h. t) (λ h. more c t)
@@ -215,7 +215,7 @@ module _ (isDir : Bool) (path : List ℕ) (t t′ : Tree) (w : MadeAt isDir path
         names = namesAt c;
         home-was = saw-home (w .ns) (w .n) t (t .nextQid + 1) (w .name) (w .head) c (makeIn x) (w .leads);
         home-is = see-home (w .ns) (w .n) t (t .nextQid + 1) (w .name) (w .head) c (makeIn x) (w .leads)
-          ∙ ap (aDir (w .head)) (make-names x c (tidy-named c (b .1)) ∙ ap (withName (namesAt c)) (new-named isDir (w .n) (t .nextQid)));
+            ∙ ap (aDir (w .head)) (make-names x c (tidy-named c (b .1)) ∙ ap (withName (namesAt c)) (new-named isDir (w .n) (t .nextQid)));
         others = λ other ne not-home. see-others (w .ns) (w .n) t (t .nextQid + 1) (w .name) (w .head) c (makeIn x) (w .leads) alike deeper other ne (λ e. absurd (not-home e));
       })
 
@@ -240,12 +240,12 @@ module _ (isDir : Bool) (path : List ℕ) (t t′ : Tree) (w : MadeAt isDir path
         differ = λ y.
             ⊎-elim
             (λ (b : sameBytes y (w .n) ≡ true).
-                let a : named y c ≡ 0 = ap (λ l. named l c) (same-name y (w .n) b) ∙ w .absent in
-                let o : cond (sameBytes y (w .n)) 1 0 ≤ 1 = rw b (omega arith) in
-                omega (arith, named-new y, a, o))
+            let a : named y c ≡ 0 = ap (λ l. named l c) (same-name y (w .n) b) ∙ w .absent in
+            let o : cond (sameBytes y (w .n)) 1 0 ≤ 1 = rw b (omega arith) in
+            omega (arith, named-new y, a, o))
             (λ (b : sameBytes y (w .n) ≡ false).
-                let o : cond (sameBytes y (w .n)) 1 0 ≡ 0 = ap {B = ℕ} (λ z. cond z 1 0) b in
-                omega (arith, named-new y, h .differ y, o))
+            let o : cond (sameBytes y (w .n)) 1 0 ≡ 0 = ap {B = ℕ} (λ z. cond z 1 0) b in
+            omega (arith, named-new y, h .differ y, o))
             (cases-bool (sameBytes y (w .n)));
         sevens = ap (λ k. k % 7) e ∙ s .0;
         few = rw e (s .1);

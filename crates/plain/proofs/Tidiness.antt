@@ -89,8 +89,7 @@ tidy-modify f (n ∷ ns) m d c m₁ d₁ c₁ is t b t₁ b₁ = go (at c (find 
         let s = modify-step n ns f c m₂ d₂ tt e at-n in
         let h = ih m₂ d₂ e is (p .1) (p .2) t₁ b₁ in
         let q = deep m₂ d₂ tt (modify ns f e) in
-        let g = found-within n c (λ z. let y : deep m₂ d₂ tt e ≡ flat free = sym at-n ∙ z in let w : _≡_ {A = ℕ} 0 1 = cc in omega arith) in
-        (
+        let g = found-within n c (λ z. let y : deep m₂ d₂ tt e ≡ flat free = sym at-n ∙ z in let w : _≡_ {A = ℕ} 0 1 = cc in omega arith) in (
           subst TidyDir (sym s) (tidy-same c (find n c) q (g .0) (λ x. ap (hasName x) (sym at-n)) t),
           subst TidyBelow (sym s) (tidy-set c (find n c) q b (p .0, h .0, h .1)),
         )

@@ -136,18 +136,18 @@ walk-aside f m₁ d₁ c₁ (n ∷ ns) q m d c is apart = go (at c (find n c)) r
         let name : n ≡ m₂ = same-name n m₂ (ap (hasName n) (sym at-n) ∙ g .1) in
         ⊎-elim
         (λ (t : sameBytes x n ≡ true).
-            let x-is = same-name x n t in
-            let here = found-new n c (find n c) p (g .0) (ap (hasName n) (sym at-n) ∙ g .1) (omega arith) in
-            ap (λ y. sight (walk q (child y (deep m d tt (modify (n ∷ ns) f c))))) x-is
-            ∙ ap (λ k. sight (walk q (at k (find n k)))) s
-            ∙ ap (λ z. sight (walk q z)) here
-            ∙ ih q m₂ d₂ e is (λ r h. apart r (ap (λ y. y ∷ q) x-is ∙ ap (λ l. n ∷ l) h))
-            ∙ ap (λ z. sight (walk q z)) (sym at-n)
-            ∙ ap (λ y. sight (walk q (child y (deep m d tt c)))) (sym x-is))
+        let x-is = same-name x n t in
+        let here = found-new n c (find n c) p (g .0) (ap (hasName n) (sym at-n) ∙ g .1) (omega arith) in
+        ap (λ y. sight (walk q (child y (deep m d tt (modify (n ∷ ns) f c))))) x-is
+        ∙ ap (λ k. sight (walk q (at k (find n k)))) s
+        ∙ ap (λ z. sight (walk q z)) here
+        ∙ ih q m₂ d₂ e is (λ r h. apart r (ap (λ y. y ∷ q) x-is ∙ ap (λ l. n ∷ l) h))
+        ∙ ap (λ z. sight (walk q z)) (sym at-n)
+        ∙ ap (λ y. sight (walk q (child y (deep m d tt c)))) (sym x-is))
         (λ (t : sameBytes x n ≡ false).
-            let t′ : sameBytes x m₂ ≡ false = ap (sameBytes x) (sym name) ∙ t in
-            ap (λ k. sight (walk q (at k (find x k)))) s
-            ∙ ap (λ z. sight (walk q z)) (found-other x c (find n c) p t′ (ap (hasName x) at-n ∙ t′)))
+        let t′ : sameBytes x m₂ ≡ false = ap (sameBytes x) (sym name) ∙ t in
+        ap (λ k. sight (walk q (at k (find x k)))) s
+        ∙ ap (λ z. sight (walk q z)) (found-other x c (find n c) p t′ (ap (hasName x) at-n ∙ t′)))
         (cases-bool (sameBytes x n))
 
 -- names go on from others, or they do not
@@ -157,7 +157,7 @@ goes-on (n ∷ ns) [] = inr (λ r e. let z : _≡_ {A = ℕ} 0 1 = cc in omega a
 goes-on (n ∷ ns) (x ∷ q) =
     ⊎-elim
     (λ (t : sameBytes x n ≡ true).
-        let x-is = same-name x n t in
-        ⊎-elim (λ h. inl (h .0, ap (λ y. y ∷ q) x-is ∙ ap (λ l. n ∷ l) (h .1))) (λ ne. inr (λ r e. ne r (cc))) (goes-on ns q))
+    let x-is = same-name x n t in
+    ⊎-elim (λ h. inl (h .0, ap (λ y. y ∷ q) x-is ∙ ap (λ l. n ∷ l) (h .1))) (λ ne. inr (λ r e. ne r (cc))) (goes-on ns q))
     (λ (t : sameBytes x n ≡ false). inr (λ r e. apart-name x n t (cc)))
     (cases-bool (sameBytes x n))

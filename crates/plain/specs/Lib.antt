@@ -6,3 +6,4 @@ pub mod Refusals
 pub mod Histories
 pub mod Books
 pub mod Laws
+pub mod Vectors

@@ -2,5 +2,6 @@
 
 mod bytes;
 pub mod fault;
+pub mod laws;
 pub mod name;
 pub mod path;

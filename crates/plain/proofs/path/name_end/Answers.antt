@@ -13,8 +13,8 @@ use Rattle.plain.proofs.path.name_end.Needs.{then-at-text·by·then-at-text, t
 pub returns-then-at-text : need.returns-then-at-text
 returns-then-at-text c =
     elim (c .then-at-text .came) [
-      then-at-text·by·then-at-text w ↦ end-past (c .args .text .now) (c .args .at) (w .if-at-text .taken)
-    | then-at-text·by·else-at-text·then-text-at-ne47 w ↦ end-none (c .args .text .now) (c .args .at) (w .if-at-text .left) (w .if-text-at-ne47 .taken)
+      | then-at-text·by·then-at-text w ↦ end-past (c .args .text .now) (c .args .at) (w .if-at-text .taken)
+      | then-at-text·by·else-at-text·then-text-at-ne47 w ↦ end-none (c .args .text .now) (c .args .at) (w .if-at-text .left) (w .if-text-at-ne47 .taken)
     ]
 
 pub returns-then-is-name : need.returns-then-is-name
