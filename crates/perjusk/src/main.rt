@@ -1,5 +1,7 @@
 //! Keeps the blend table of one seam on a pile of discs, and prints each thing that it does.
+mod dump;
 mod pile;
+mod reading;
 mod seam;
 
 use device::disc::DiscDevice;
@@ -24,16 +26,22 @@ fn main(rt: LibcRuntime) -> io::Result<()> {
     store(&rt, &mut pile)?;
     show_refusals(&rt, &mut pile)?;
     read_back(&rt, &mut pile)?;
+    dump::lay_out(&rt, &mut pile)?;
+    reading::show_tree(&rt, &mut pile)?;
     pile::take_apart(&rt, pile)
 }
+
+/// Where the table lies on the pile.
+pub(crate) const TABLE: u32 = 16;
 
 /// Writes the table, block by block.
 fn store(rt: &LibcRuntime, pile: &mut Pile) -> io::Result<()> {
     for block in 0..TABLE_BLOCKS {
         let part = Part::of_block(block);
-        match pile.write(block, &part.levels()) {
-            Ok(()) => println!(rt, "write block {block}, {part}: done")?,
-            Err(fault) => println!(rt, "write block {block}, {part}: {fault}")?,
+        let at = TABLE + block;
+        match pile.write(at, &part.levels()) {
+            Ok(()) => println!(rt, "write block {at}, {part}: done")?,
+            Err(fault) => println!(rt, "write block {at}, {part}: {fault}")?,
         }
     }
     Ok(())
@@ -42,16 +50,16 @@ fn store(rt: &LibcRuntime, pile: &mut Pile) -> io::Result<()> {
 /// Asks for what the pile refuses.
 fn show_refusals(rt: &LibcRuntime, pile: &mut Pile) -> io::Result<()> {
     let mut buf = [0; BLOCK_LEN];
-    if let Err(fault) = pile.write(5, &buf) {
-        println!(rt, "write block 5 again: {fault}")?;
+    if let Err(fault) = pile.write(TABLE, &buf) {
+        println!(rt, "write block {TABLE} again: {fault}")?;
     }
-    if let Err(fault) = pile.read(TABLE_BLOCKS, &mut buf) {
-        println!(rt, "read block 8, which was never written: {fault}")?;
+    if let Err(fault) = pile.read(0, &mut buf) {
+        println!(rt, "read block 0, which was never written: {fault}")?;
     }
     if let Err(fault) = pile.read(pile.size(), &mut buf) {
         println!(rt, "read one block past the end: {fault}")?;
     }
-    if let Err(fault) = pile.write(TABLE_BLOCKS, b"half a block") {
+    if let Err(fault) = pile.write(0, b"half a block") {
         println!(rt, "write 12 bytes: {fault}")?;
     }
     Ok(())
@@ -62,13 +70,14 @@ fn read_back(rt: &LibcRuntime, pile: &mut Pile) -> io::Result<()> {
     let mut same = 0u32;
     for block in 0..TABLE_BLOCKS {
         let part = Part::of_block(block);
-        match part.is_in(pile, block) {
+        let at = TABLE + block;
+        match part.is_in(pile, at) {
             Ok(true) => {
                 same = same.saturating_add(1);
-                println!(rt, "read block {block}, {part}: as written")?;
+                println!(rt, "read block {at}, {part}: as written")?;
             }
-            Ok(false) => println!(rt, "read block {block}, {part}: not as written")?,
-            Err(fault) => println!(rt, "read block {block}, {part}: {fault}")?,
+            Ok(false) => println!(rt, "read block {at}, {part}: not as written")?,
+            Err(fault) => println!(rt, "read block {at}, {part}: {fault}")?,
         }
     }
     println!(

@@ -1,4 +1,5 @@
 //! The pile: a fake worm over a mirror of concatenated discs, of which one has spoiled blocks.
+use crate::TABLE;
 use crate::seam::Part;
 use crate::seam::TABLE_BLOCKS;
 use device::disc::Disc;
@@ -29,18 +30,18 @@ const HELD: u8 = 1;
 const SPOILED: u8 = 2;
 
 /// The blocks of disc 1 that are spoiled from the start.
-const SPOILED_BLOCKS: [u32; 3] = [2, 3, 11];
+const SPOILED_BLOCKS: [u32; 3] = [2, 17, 18];
 
 /// Sets up the pile, and prints what it is made of.
 pub(crate) fn build(rt: &LibcRuntime) -> io::Result<Pile> {
     let heap = rt.alloc();
     let one = Disc::rewritable(1, storage(heap, 24, &SPOILED_BLOCKS)?);
-    show(rt, "a disc with blocks 2, 3 and 11 spoiled", &one)?;
+    show(rt, "a disc with blocks 2, 17 and 18 spoiled", &one)?;
     let two = Disc::rewritable(2, storage(heap, 16, &[])?);
     show(rt, "a disc", &two)?;
-    let three = Disc::rewritable(3, storage(heap, 20, &[])?);
+    let three = Disc::rewritable(3, storage(heap, 28, &[])?);
     show(rt, "a disc", &three)?;
-    let four = Disc::rewritable(4, storage(heap, 20, &[])?);
+    let four = Disc::rewritable(4, storage(heap, 12, &[])?);
     show(rt, "a disc", &four)?;
     let first = Concatenation::new(11, one, two);
     show(
@@ -97,7 +98,7 @@ fn storage(heap: Global, blocks: u32, spoiled: &[u32]) -> Result<Vec<u8>, AllocE
 fn table_blocks_on<D: Device>(disc: &mut D) -> u32 {
     let mut count = 0u32;
     for block in 0..TABLE_BLOCKS {
-        if let Ok(true) = Part::of_block(block).is_in(disc, block) {
+        if let Ok(true) = Part::of_block(block).is_in(disc, TABLE + block) {
             count = count.saturating_add(1);
         }
     }

@@ -6,29 +6,45 @@ use device::interface::Device;
 use std::fmt;
 
 /// The levels of a row, at one byte each.
-const COLUMNS: u32 = 64;
+const COLUMNS: usize = 64;
+
+/// The rows of a field.
+const ROWS: usize = 32;
+
+/// The bytes of a field, row by row.
+pub(crate) const FIELD_LEN: usize = ROWS * COLUMNS;
 
 /// The rows that fill a block.
-const ROWS_OF_BLOCK: u32 = BLOCK_LEN as u32 / COLUMNS;
+const ROWS_OF_BLOCK: usize = BLOCK_LEN / COLUMNS;
 
-/// The blocks of a field of 32 rows.
-const FIELD_BLOCKS: u32 = 4;
+/// The blocks of a field.
+const FIELD_BLOCKS: u32 = (ROWS / ROWS_OF_BLOCK) as u32;
 
 /// The blocks of the table: the dark field, then the white field.
 pub(crate) const TABLE_BLOCKS: u32 = 2 * FIELD_BLOCKS;
 
 /// One of the two measurements.
 #[derive(Clone, Copy)]
-enum Field {
+pub(crate) enum Field {
     Dark,
     White,
 }
 
 impl Field {
+    /// What the field is called.
+    pub(crate) fn name(self) -> &'static str {
+        match self {
+            Field::Dark => "dark",
+            Field::White => "white",
+        }
+    }
+
     /// The level at a place of the field. The dark field is faint, and the white one rises across the overlap.
-    fn level(self, row: u32, column: u32) -> u8
-        requires { ⌜ row < 32 ⌝ ∗ ⌜ column < 64 ⌝ }
+    pub(crate) fn level(self, at: usize) -> u8
+        requires { ⌜ at < 2048 ⌝ }
     {
+        let row = at / COLUMNS;
+        let column = at % COLUMNS;
         let level = match self {
             Field::Dark => 4 + row / 8 + column / 16,
             Field::White => 96 + row / 2 + column * 2,
@@ -41,7 +57,7 @@ impl Field {
 #[derive(Clone, Copy)]
 pub(crate) struct Part {
     field: Field,
-    first_row: u32,
+    first_row: usize,
     ghost within: { «first_row» ≤ 24 },
 }
 
@@ -55,7 +71,7 @@ impl Part {
         };
         Part {
             field,
-            first_row: block % FIELD_BLOCKS * ROWS_OF_BLOCK,
+            first_row: (block % FIELD_BLOCKS) as usize * ROWS_OF_BLOCK,
         }
     }
 
@@ -63,8 +79,7 @@ impl Part {
     pub(crate) fn levels(self) -> [u8; BLOCK_LEN] {
         let mut levels = [0; BLOCK_LEN];
         for (i, level) in levels.iter_mut().enumerate() {
-            let i = i as u32;
-            *level = self.field.level(self.first_row + i / COLUMNS, i % COLUMNS);
+            *level = self.field.level(self.first_row * COLUMNS + i);
         }
         levels
     }
@@ -79,10 +94,7 @@ impl Part {
 
 pub impl fmt::Display for Part as PartDisplay {
     fn fmt<W: fmt::Write>(&self, f: &mut fmt::Formatter<W>) -> fmt::Result {
-        let name = match self.field {
-            Field::Dark => "dark",
-            Field::White => "white",
-        };
+        let name = self.field.name();
         let first = self.first_row;
         let last = first + ROWS_OF_BLOCK - 1;
         write!(f, "{name} field, rows {first} to {last}")

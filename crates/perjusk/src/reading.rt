@@ -1,0 +1,126 @@
+//! Reads a dump through the views of its blocks alone, and prints the tree that it finds.
+ghost use Prim.Native.Nat.{_≤_};
+use crate::dump::SUPER;
+use crate::pile::Pile;
+use device::disc::DiscDevice;
+use device::fault::BLOCK_LEN;
+use device::fault::DeviceFaultDisplay;
+use device::interface::Device;
+use layers::concatenation::ConcatenationDevice;
+use layers::fake_worm::FakeWormDevice;
+use layers::mirror::MirrorDevice;
+use layout::block::BODY_LEN;
+use layout::block::BlockView;
+use layout::block::ENTRY_COUNT;
+use layout::entry::DIRECT_COUNT;
+use layout::entry::EntryView;
+use layout::entry::Mode;
+use layout::super_block::Super;
+use std::io;
+use std::str;
+
+/// Follows the first super to its tree, of "/" and the files in it, and prints a line for each thing found.
+pub(crate) fn show_tree(rt: &LibcRuntime, pile: &mut Pile) -> io::Result<()> {
+    let mut bytes = [0; BLOCK_LEN];
+    if let Err(fault) = pile.read(SUPER, &mut bytes) {
+        return println!(rt, "super: {fault}");
+    }
+    let view = BlockView::new(&bytes);
+    if !view.is_legal_super() {
+        return println!(rt, "block {SUPER} is no super");
+    }
+    let Super {
+        number,
+        date,
+        root,
+        next_qid,
+        ..
+    } = Super::from_view(&view);
+    println!(
+        rt,
+        "super {number} of {date}: root block {root}, next qid {next_qid}"
+    )?;
+    if let Err(fault) = pile.read(root, &mut bytes) {
+        return println!(rt, "root block: {fault}");
+    }
+    let entry = BlockView::new(&bytes).entry(0);
+    show_entry(rt, entry)?;
+    for i in 0..DIRECT_COUNT {
+        let address = entry.direct(i);
+        if address != 0 {
+            show_directory(rt, pile, address)?;
+        }
+    }
+    Ok(())
+}
+
+/// Prints the entries of a directory block, and of each file what is in its blocks.
+fn show_directory(rt: &LibcRuntime, pile: &mut Pile, address: u32) -> io::Result<()> {
+    let mut bytes = [0; BLOCK_LEN];
+    if let Err(fault) = pile.read(address, &mut bytes) {
+        return println!(rt, "directory block {address}: {fault}");
+    }
+    let view = BlockView::new(&bytes);
+    for k in 0..ENTRY_COUNT {
+        let entry = view.entry(k);
+        if !entry.is_empty() {
+            show_entry(rt, entry)?;
+            show_file(rt, pile, entry)?;
+        }
+    }
+    Ok(())
+}
+
+/// Prints what an entry says.
+fn show_entry(rt: &LibcRuntime, entry: EntryView<'_>) -> io::Result<()> {
+    let name = match str::from_utf8(entry.name()) {
+        Ok(name) => name,
+        Err(_) => "of no text",
+    };
+    let kind = if entry.mode() == Mode::Directory.number() {
+        "directory"
+    } else {
+        "file"
+    };
+    let qid = entry.qid();
+    let version = entry.version();
+    let size = entry.size();
+    println!(
+        rt,
+        "{kind} {name}: qid {qid}, version {version}, {size} bytes"
+    )
+}
+
+/// Prints a line for each direct block of a file.
+fn show_file(rt: &LibcRuntime, pile: &mut Pile, entry: EntryView<'_>) -> io::Result<()> {
+    let mut left = entry.size() as usize;
+    for i in 0..DIRECT_COUNT {
+        let address = entry.direct(i);
+        let len = left.min(BODY_LEN);
+        if address != 0 {
+            show_data(rt, pile, address, len)?;
+        }
+        left = left.saturating_sub(len);
+    }
+    Ok(())
+}
+
+/// Prints what the first bytes of a file's block are: levels of a field.
+fn show_data(rt: &LibcRuntime, pile: &mut Pile, address: u32, len: usize) -> io::Result<()>
+    requires { ⌜ len ≤ 504 ⌝ }
+{
+    let mut bytes = [0; BLOCK_LEN];
+    if let Err(fault) = pile.read(address, &mut bytes) {
+        return println!(rt, "  block {address}: {fault}");
+    }
+    let view = BlockView::new(&bytes);
+    let tag = view.tag();
+    let owner = view.owner();
+    let levels = &bytes[0..len];
+    let low = levels.iter().copied().min().unwrap_or(0);
+    let high = levels.iter().copied().max().unwrap_or(0);
+    println!(
+        rt,
+        "  block {address}: tag {tag}, owner {owner}, {len} bytes, levels {low} to {high}"
+    )
+}
