@@ -1,7 +1,7 @@
 -- Bodies of blocks: the bytes of a file, parts of one length, and the numbers of a super.
 use mathlib.Core.Path.{_≡_, refl, sym, ap, _∙_}
 use mathlib.Core.Bool.{true}
-use mathlib.Core.List.{List, [], _++_}
+use mathlib.Core.List.{List, _++_}
 use mathlib.Core.Logic.{⊎-elim}
 use Prim.Native.Nat.{ℕ, _*_, _^_, _+_, _<_, _≤_}
 use native.Mathlib.Omega.{arith}

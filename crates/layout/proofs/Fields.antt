@@ -1,8 +1,9 @@
 -- The fields of entries.
 use mathlib.Core.Path.{_≡_, refl, ap, _∙_}
 use mathlib.Core.List.{List, [], _∷_, _++_}
-use Prim.Native.Nat.{ℕ, _+_, _*_, _^_, _<_, _≤_}
+use Prim.Native.Nat.{ℕ, _+_, _-_, _*_, _^_, _<_, _≤_}
 use native.Mathlib.Omega.{arith}
+use borrow.Rule.Slice.PartMut.{putMid}
 use lib.ListN.{length, getD, take, replicate}
 use Rattle.std.specs.shelf.Lists.{joined, All}
 use Rattle.std.proofs.shelf.Lists.{length-append, append-assoc, take-at, drop-at}
@@ -10,7 +11,7 @@ use Rattle.layout.specs.Numbers.{bytes16, bytes32, number16, number32, bytesAt
 use Rattle.layout.specs.Entries.{Entry, emptyEntry, entryBytes, untilZero, nameOf, modeOf, reservedOf, qidOf, versionOf, sizeOf, directOf, indirectOf}
 use Rattle.layout.proofs.Bytes.{length-bytes16, length-bytes32, length-joined, number16-bytes16, number32-bytes32, number-at}
 use Rattle.layout.proofs.Parts.{behind, length-fit, fit-whole}
-use Rattle.layout.proofs.Patches.{Front, front-more, front-all}
+use Rattle.layout.proofs.Patches.{put-is, Front, front-more, front-all}
 use Rattle.layout.proofs.Words.{until-fit}
 
 pub length-entryBytes : (e : Entry) → length (entryBytes e) ≡ 72
@@ -20,6 +21,10 @@ length-entryBytes e = simp (length-append, length-fit, length-bytes16, length-by
 pub empty-bytes : entryBytes emptyEntry ≡ replicate 72 0
 unfolding entryBytes fit bytes16 bytes32
 empty-bytes = refl
+
+-- an entry's bytes, written to place k of a block
+pub place-written : (k : ℕ) (bytes new : List ℕ) (e : Entry) → new ≡ entryBytes e → putMid (72 * k) (72 * k + 72 - 72 * k) bytes new ≡ patched (72 * k) (entryBytes e) bytes
+place-written k bytes new e is = put-is (72 * k) (72 * k + 72) bytes new (entryBytes e) is (omega (arith, length-entryBytes e))
 
 -- an entry whose name and addresses fill their fields, written field by field
 module _ (e : Entry) (old : List ℕ) (named : length (e .name) ≡ 28) (six : length (e .direct) ≡ 6) (whole : length old ≡ 72) where

@@ -1,5 +1,5 @@
 -- The tests of an entry's name and addresses.
-use mathlib.Core.Path.{_≡_, refl, sym, ap, _∙_}
+use mathlib.Core.Path.{_≡_, sym, ap, _∙_}
 use mathlib.Core.Bool.{Bool, true, false, _&&_}
 use mathlib.Core.List.{List}
 use Prim.Native.Nat.{ℕ, _+_, _-_, _<_, _≤_}
@@ -8,7 +8,7 @@ use native.Mathlib.Omega.{arith}
 use lib.Dec.{ltb}
 use lib.ListN.{length, getD, take, drop}
 use Rattle.std.specs.Iters.{counting}
-use Rattle.std.proofs.shelf.Counted.{length-counting, getD-counting}
+use Rattle.std.proofs.shelf.Counted.{getD-counting}
 use Rattle.std.proofs.shelf.Lists.{take-all, take-rest}
 use Rattle.std.proofs.shelf.Tests.{and-left}
 use Rattle.plain.specs.Names.{every, isName}

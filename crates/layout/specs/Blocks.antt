@@ -8,12 +8,14 @@ use Rattle.layout.specs.declared.block.Tag.{Tag}
 use Rattle.layout.specs.declared.block.Tag.the-variants.{Super, Directory, Indirect, File}
 use Rattle.layout.specs.Numbers.{bytes16, bytes32, number16, number32, bytesAt, fit}
 
+-- the number of a tag in a block
 abbrev pub tagNumber : Tag → ℕ
 tagNumber Super = 1
 tagNumber Directory = 2
 tagNumber Indirect = 3
 tagNumber File = 5
 
+-- the parts of a block
 abbrev pub bodyOf : List ℕ → List ℕ
 bodyOf b = bytesAt 0 504 b
 

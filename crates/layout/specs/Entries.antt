@@ -24,6 +24,7 @@ pub record Entry : Type 0 where
   pub direct : List ℕ
   pub indirect : ℕ
 
+-- the number of a mode in an entry
 abbrev pub modeNumber : Mode → ℕ
 modeNumber File = 0x8000
 modeNumber Directory = 0xC000

@@ -44,13 +44,13 @@ fileBytes = (33 ∷ replicate 503 0) ++ (0 ∷ 0 ∷ 0 ∷ 5 ∷ 0 ∷ 0 ∷ 1 �
 abbrev old : Entry
 old = record { name = 111 ∷ 108 ∷ 100 ∷ []; mode = 0xC000; qid = 10; version = 0; size = 3024; direct = 12 ∷ 13 ∷ 14 ∷ 15 ∷ 16 ∷ 17 ∷ []; indirect = 0 }
 
--- a third super
+-- the third super
 abbrev third : Super
-third = record { number = 3; date = 1000; root = 40; previous = 39; next = 65534; «next_qid» = 259 }
+third = record { number = 2; date = 1000; root = 40; previous = 39; next = 65534; «next_qid» = 259 }
 
 abbrev superBytes : List ℕ
 superBytes =
-    (0 ∷ 0 ∷ 0 ∷ 3 ∷ 0 ∷ 0 ∷ 3 ∷ 232 ∷ 0 ∷ 0 ∷ 0 ∷ 40 ∷ 0 ∷ 0 ∷ 0 ∷ 39 ∷ 0 ∷ 0 ∷ 255 ∷ 254 ∷ 0 ∷ 0 ∷ 1 ∷ 3 ∷ replicate 480 0)
+    (0 ∷ 0 ∷ 0 ∷ 2 ∷ 0 ∷ 0 ∷ 3 ∷ 232 ∷ 0 ∷ 0 ∷ 0 ∷ 40 ∷ 0 ∷ 0 ∷ 0 ∷ 39 ∷ 0 ∷ 0 ∷ 255 ∷ 254 ∷ 0 ∷ 0 ∷ 1 ∷ 3 ∷ replicate 480 0)
     ++ (0 ∷ 0 ∷ 0 ∷ 1 ∷ 0 ∷ 0 ∷ 0 ∷ 0 ∷ [])
 
 -- the root block of a new tree

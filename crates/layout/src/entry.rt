@@ -164,7 +164,7 @@ impl<'a> EntryView<'a> {
         self.name() == name
     }
 
-    /// Whether the place is empty.
+    /// Whether the place is empty, by its mode.
     pub fn is_empty(&self) -> bool
         ensures { λ r. ⌜ r ≡ eqb (modeOf (now (now (self .entry) .bytes))) 0 ⌝ }
     {
@@ -183,7 +183,7 @@ impl<'a> EntryView<'a> {
                 && self.addresses_are_legal(limit))
     }
 
-    /// The bytes after the mode, which say nothing.
+    /// The bytes after the mode, which an entry has no use for.
     fn reserved(&self) -> u16
         ensures { λ r. ⌜ r ≡ reservedOf (now (now (self .entry) .bytes)) ⌝ }
     {

@@ -15,6 +15,7 @@ pub(crate) const NUMBERS_LEN: usize = 24;
 /// What a super says.
 #[derive(Clone, Copy, PartialEq, Eq, Debug)]
 pub struct Super {
+    /// How many supers come before this one.
     pub number: u32,
     pub date: u32,
     /// The address of the root block.

@@ -2,7 +2,6 @@ use mathlib.Core.Path.{_≡_, sym, ap, _∙_}
 use Prim.Native.Nat.{_+_, _-_, _*_}
 use native.Mathlib.Omega.{arith}
 use lib.ListN.{length, take, drop}
-use Rattle.std.proofs.shelf.Lists.{length-take, length-drop}
 use Rattle.layout.specs.Numbers.{bytesAt, fit}
 use Rattle.layout.proofs.Parts.{part-of-front, part-past, fit-whole, fit-none}
 use Rattle.layout.proofs.block.BlockView.entry.Needs as need
