@@ -1,7 +1,7 @@
 -- Entries of 72 bytes, of which a directory block has seven.
 use mathlib.Core.Bool.{Bool, cond, _&&_, _||_}
 use mathlib.Core.List.{List, [], _∷_, _++_}
-use Prim.Native.Nat.{ℕ, zero, suc, _+_, _*_, _/_, _%_}
+use Prim.Native.Nat.{ℕ, zero, suc, _+_, _-_, _*_, _/_, _%_}
 use lib.Dec.{eqb, leb, ltb}
 use lib.ListN.{length, drop}
 use Rattle.std.specs.Iters.{counting}
@@ -11,6 +11,8 @@ use Rattle.layout.specs.declared.block.Tag.the-variants as tag
 use Rattle.layout.specs.declared.entry.Mode.{Mode}
 use Rattle.layout.specs.declared.entry.Mode.the-variants.{File, Directory}
 use Rattle.layout.specs.declared.entry.Entry as code
+use Rattle.layout.specs.declared.pointer.Pointer.{Pointer}
+use Rattle.layout.specs.declared.pointer.Pointer.the-variants.{Direct, Indirect}
 use Rattle.layout.specs.Numbers.{bytes16, bytes32, number16, number32, bytesAt, fit, allZero}
 use Rattle.layout.specs.Blocks.{tagNumber, bodyOf, block}
 
@@ -83,6 +85,11 @@ directOf i e = number32 (bytesAt (4 * i) 4 (bytesAt 44 24 e))
 
 abbrev pub indirectOf : List ℕ → ℕ
 indirectOf e = number32 (bytesAt 68 4 e)
+
+-- where the address of the block stands that has byte n of a file: blocks 0 to 5 have the direct addresses, the others those of the
+-- indirect block
+abbrev pub pointerTo : ℕ → Pointer
+pointerTo n = cond (ltb (n / 504) 6) (Direct (n / 504)) (Indirect (n / 504 - 6))
 
 -- the 72 bytes of entry k of a block; from 7 on the body has no bytes, which is an empty place
 abbrev pub entryAt : ℕ → List ℕ → List ℕ

@@ -2,13 +2,14 @@
 use mathlib.Core.Path.{_≡_}
 use mathlib.Core.Bool.{true, false}
 use mathlib.Core.List.{List, [], _∷_, _++_, map}
-use Prim.Native.Nat.{ℕ, _/_}
+use Prim.Native.Nat.{ℕ}
 use lib.ListN.{replicate}
 use Rattle.std.specs.Iters.{counting}
+use Rattle.layout.specs.declared.pointer.Pointer.the-variants.{Direct, Indirect}
 use Rattle.layout.specs.declared.super_block.Super.{Super}
 use Rattle.layout.specs.Numbers.{bytes16, bytes32, patched}
 use Rattle.layout.specs.Blocks.{bodyOf, padOf, tagOf, ownerOf, fileBlock, indirectBlock, addressOf}
-use Rattle.layout.specs.Entries.{Entry, emptyEntry, entryBytes, directoryBlock, rootBlock, nameOf, modeOf, reservedOf, qidOf, versionOf, sizeOf, directOf, indirectOf, entryAt, legalEntry}
+use Rattle.layout.specs.Entries.{Entry, emptyEntry, entryBytes, directoryBlock, rootBlock, nameOf, modeOf, reservedOf, qidOf, versionOf, sizeOf, directOf, indirectOf, pointerTo, entryAt, legalEntry}
 use Rattle.layout.specs.Supers.{superBlock, superOf, legalSuper}
 
 -- a file "notes" of 3,025 bytes, which is one byte in its seventh block
@@ -103,9 +104,10 @@ pub record Vectors : Type 0 where
   pub root : rootBlock ≡ rootBytes
   pub root-first : nameOf (entryAt 0 rootBytes) ≡ 47 ∷ []
   pub root-no-entry-of-a-tree : legalEntry 65536 2 (entryAt 0 rootBytes) ≡ false
-  -- byte 3,023 of a file lies in the last block with a direct address, and byte 3,024 in the block after it
-  pub last-direct : _≡_ {A = ℕ} (3023 / 504) 5
-  pub first-indirect : _≡_ {A = ℕ} (3024 / 504) 6
+  -- byte 3,023 of a file lies in block 5, byte 3,024 in the first that the indirect block names, and the last byte in its last
+  pub last-direct : pointerTo 3023 ≡ Direct 5
+  pub first-indirect : pointerTo 3024 ≡ Indirect 0
+  pub last-indirect : pointerTo 66527 ≡ Indirect 125
   -- what an entry may hold, with the next qid 259 on a shelf of 65,536 blocks, and each test at its edge
   pub legal : legalEntry 65536 259 notesBytes ≡ true
   pub legal-empty : legalEntry 65536 259 (replicate 72 0) ≡ true

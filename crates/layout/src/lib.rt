@@ -4,5 +4,6 @@ pub mod block;
 pub mod entry;
 pub mod laws;
 mod numbers;
+pub mod pointer;
 pub mod root;
 pub mod super_block;

@@ -1,8 +1,9 @@
-//! A small dump, laid out by hand: the blocks of two files, each a field of the table, a directory block, a root block and a super.
+//! A small dump, laid out by hand: the blocks of one file, which holds the table, its indirect block, a directory block, a root block
+//! and a super.
 ghost use Prim.Native.Nat.{_<_};
 use crate::pile::Pile;
-use crate::seam::FIELD_LEN;
-use crate::seam::Field;
+use crate::seam::TABLE_LEN;
+use crate::seam::table_level;
 use device::disc::DiscDevice;
 use device::fault::BLOCK_LEN;
 use device::fault::DeviceFault;
@@ -14,6 +15,7 @@ use layers::mirror::MirrorDevice;
 use layout::block::BODY_LEN;
 use layout::block::Tag;
 use layout::block::new_block;
+use layout::block::write_address;
 use layout::block::write_entry;
 use layout::entry::Entry;
 use layout::entry::Mode;
@@ -32,46 +34,39 @@ const ROOT: u32 = 2;
 
 const DIRECTORY: u32 = 3;
 
-const DARK: u32 = 4;
+const INDIRECT: u32 = 4;
 
-const WHITE: u32 = 9;
+/// The address of the file's first block; the others follow.
+const DATA: u32 = 5;
 
 /// The address that is kept for the next super.
 const NEXT_SUPER: u32 = 14;
 
-/// The blocks of a file that holds a field.
-const FILE_BLOCKS: u32 = 5;
+/// The blocks of the file, of which the indirect block names all but six.
+const FILE_BLOCKS: u32 = 9;
 
-/// The qids of the directory "/" and of the two files.
+const NAMED_BLOCKS: u32 = 3;
+
+/// The qids of the directory "/" and of the file.
 const ROOT_QID: u32 = 1;
 
-const DARK_QID: u32 = 2;
+const FILE_QID: u32 = 2;
 
-const WHITE_QID: u32 = 3;
-
-const NEXT_QID: u32 = 4;
+const NEXT_QID: u32 = 3;
 
 /// Writes the dump onto the pile, the super last, and prints a line for each part.
 pub(crate) fn lay_out(rt: &LibcRuntime, pile: &mut Pile) -> io::Result<()> {
-    let dark = write_file(pile, Field::Dark, DARK_QID, DARK);
-    report(rt, "blocks 4 to 8, the file dark", dark)?;
-    let white = write_file(pile, Field::White, WHITE_QID, WHITE);
-    report(rt, "blocks 9 to 13, the file white", white)?;
-    let mut directory = new_block(Tag::Directory, ROOT_QID);
-    write_entry(&mut directory, 0, &file_entry(Field::Dark, DARK_QID, DARK));
-    write_entry(
-        &mut directory,
-        1,
-        &file_entry(Field::White, WHITE_QID, WHITE),
-    );
-    report(
-        rt,
-        "block 3, the directory",
-        pile.write(DIRECTORY, &directory),
-    )?;
-    let mut root = root_block();
-    write_entry(&mut root, 0, &root_entry());
-    report(rt, "block 2, the root block", pile.write(ROOT, &root))?;
+    report(rt, "blocks 5 to 13, the file blend", write_data(pile))?;
+    let indirect = pile.write(INDIRECT, &indirect_block());
+    report(rt, "block 4, its indirect block", indirect)?;
+    let mut bytes = new_block(Tag::Directory, ROOT_QID);
+    write_entry(&mut bytes, 0, &file_entry());
+    let directory = pile.write(DIRECTORY, &bytes);
+    report(rt, "block 3, the directory block", directory)?;
+    bytes = root_block();
+    write_entry(&mut bytes, 0, &root_entry());
+    let root = pile.write(ROOT, &bytes);
+    report(rt, "block 2, the root block", root)?;
     let first = Super {
         number: 0,
         date: DATE,
@@ -80,11 +75,8 @@ pub(crate) fn lay_out(rt: &LibcRuntime, pile: &mut Pile) -> io::Result<()> {
         next: NEXT_SUPER,
         next_qid: NEXT_QID,
     };
-    report(
-        rt,
-        "block 1, the super",
-        pile.write(SUPER, &first.to_block()),
-    )
+    let done = pile.write(SUPER, &first.to_block());
+    report(rt, "block 1, the super", done)
 }
 
 /// Prints what came of writing a part of the dump.
@@ -95,42 +87,47 @@ fn report(rt: &LibcRuntime, what: &str, answer: Result<(), DeviceFault>) -> io::
     }
 }
 
-/// Writes the blocks of a file that holds a field, from an address on.
-fn write_file(pile: &mut Pile, field: Field, qid: u32, first: u32) -> Result<(), DeviceFault>
-    requires { ⌜ first < 100 ⌝ }
-{
+/// Writes the blocks of the file.
+fn write_data(pile: &mut Pile) -> Result<(), DeviceFault> {
     for j in 0..FILE_BLOCKS {
-        pile.write(first + j, &file_block(field, qid, j as usize))?;
+        pile.write(DATA + j, &file_block(j as usize))?;
     }
     Ok(())
 }
 
-/// The j-th block of such a file; after the field's end it is zero.
-fn file_block(field: Field, qid: u32, j: usize) -> [u8; BLOCK_LEN]
-    requires { ⌜ j < 5 ⌝ }
+/// The j-th block of the file; after the table's end it is zero.
+fn file_block(j: usize) -> [u8; BLOCK_LEN]
+    requires { ⌜ j < 9 ⌝ }
 {
-    let mut block = new_block(Tag::File, qid);
+    let mut bytes = new_block(Tag::File, FILE_QID);
     for i in 0..BODY_LEN {
         let at = BODY_LEN * j + i;
-        if at < FIELD_LEN {
-            block[i] = field.level(at);
+        if at < TABLE_LEN {
+            bytes[i] = table_level(at);
         }
     }
-    block
+    bytes
 }
 
-/// The entry of such a file.
-fn file_entry(field: Field, qid: u32, first: u32) -> Entry
-    requires { ⌜ first < 100 ⌝ }
-{
+/// The file's indirect block.
+fn indirect_block() -> [u8; BLOCK_LEN] {
+    let mut bytes = new_block(Tag::Indirect, FILE_QID);
+    for j in 0..NAMED_BLOCKS {
+        write_address(&mut bytes, j as usize, DATA + 6 + j);
+    }
+    bytes
+}
+
+/// The file's entry.
+fn file_entry() -> Entry {
     Entry {
-        name: name_field(field.name().as_bytes()),
+        name: name_field(b"blend"),
         mode: Mode::File,
-        qid,
+        qid: FILE_QID,
         version: 0,
-        size: FIELD_LEN as u32,
-        direct: [first, first + 1, first + 2, first + 3, first + 4, 0],
-        indirect: 0,
+        size: TABLE_LEN as u32,
+        direct: [DATA, DATA + 1, DATA + 2, DATA + 3, DATA + 4, DATA + 5],
+        indirect: INDIRECT,
     }
 }
 

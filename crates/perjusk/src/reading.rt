@@ -15,6 +15,7 @@ use layout::block::ENTRY_COUNT;
 use layout::entry::DIRECT_COUNT;
 use layout::entry::EntryView;
 use layout::entry::Mode;
+use layout::pointer::Pointer;
 use layout::super_block::Super;
 use std::io;
 use std::str;
@@ -48,14 +49,19 @@ pub(crate) fn show_tree(rt: &LibcRuntime, pile: &mut Pile) -> io::Result<()> {
     for i in 0..DIRECT_COUNT {
         let address = entry.direct(i);
         if address != 0 {
-            show_directory(rt, pile, address)?;
+            show_directory(rt, pile, address, next_qid)?;
         }
     }
     Ok(())
 }
 
 /// Prints the entries of a directory block, and of each file what is in its blocks.
-fn show_directory(rt: &LibcRuntime, pile: &mut Pile, address: u32) -> io::Result<()> {
+fn show_directory(
+    rt: &LibcRuntime,
+    pile: &mut Pile,
+    address: u32,
+    next_qid: u32,
+) -> io::Result<()> {
     let mut bytes = [0; BLOCK_LEN];
     if let Err(fault) = pile.read(address, &mut bytes) {
         return println!(rt, "directory block {address}: {fault}");
@@ -63,7 +69,9 @@ fn show_directory(rt: &LibcRuntime, pile: &mut Pile, address: u32) -> io::Result
     let view = BlockView::new(&bytes);
     for k in 0..ENTRY_COUNT {
         let entry = view.entry(k);
-        if !entry.is_empty() {
+        if !entry.is_legal(pile.size(), next_qid) {
+            println!(rt, "place {k} of block {address} has no legal entry")?;
+        } else if !entry.is_empty() {
             show_entry(rt, entry)?;
             show_file(rt, pile, entry)?;
         }
@@ -91,16 +99,26 @@ fn show_entry(rt: &LibcRuntime, entry: EntryView<'_>) -> io::Result<()> {
     )
 }
 
-/// Prints a line for each direct block of a file.
+/// Prints a line for each block of a file, as the pointers lead to it.
 fn show_file(rt: &LibcRuntime, pile: &mut Pile, entry: EntryView<'_>) -> io::Result<()> {
-    let mut left = entry.size() as usize;
-    for i in 0..DIRECT_COUNT {
-        let address = entry.direct(i);
-        let len = left.min(BODY_LEN);
-        if address != 0 {
-            show_data(rt, pile, address, len)?;
+    let mut indirect = [0; BLOCK_LEN];
+    let address = entry.indirect();
+    if address != 0 {
+        if let Err(fault) = pile.read(address, &mut indirect) {
+            return println!(rt, "  indirect block {address}: {fault}");
         }
-        left = left.saturating_sub(len);
+        let view = BlockView::new(&indirect);
+        let tag = view.tag();
+        let owner = view.owner();
+        println!(rt, "  indirect block {address}: tag {tag}, owner {owner}")?;
+    }
+    let size = entry.size() as usize;
+    for at in (0..size).step_by(BODY_LEN) {
+        let address = match Pointer::to_byte(at) {
+            Pointer::Direct(i) => entry.direct(i),
+            Pointer::Indirect(j) => BlockView::new(&indirect).address(j),
+        };
+        show_data(rt, pile, address, (size - at).min(BODY_LEN))?;
     }
     Ok(())
 }

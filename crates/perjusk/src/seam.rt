@@ -12,7 +12,10 @@ const COLUMNS: usize = 64;
 const ROWS: usize = 32;
 
 /// The bytes of a field, row by row.
-pub(crate) const FIELD_LEN: usize = ROWS * COLUMNS;
+const FIELD_LEN: usize = ROWS * COLUMNS;
+
+/// The bytes of the table: the dark field, then the white field.
+pub(crate) const TABLE_LEN: usize = 2 * FIELD_LEN;
 
 /// The rows that fill a block.
 const ROWS_OF_BLOCK: usize = BLOCK_LEN / COLUMNS;
@@ -20,19 +23,19 @@ const ROWS_OF_BLOCK: usize = BLOCK_LEN / COLUMNS;
 /// The blocks of a field.
 const FIELD_BLOCKS: u32 = (ROWS / ROWS_OF_BLOCK) as u32;
 
-/// The blocks of the table: the dark field, then the white field.
+/// The blocks of the table, without a layout.
 pub(crate) const TABLE_BLOCKS: u32 = 2 * FIELD_BLOCKS;
 
 /// One of the two measurements.
 #[derive(Clone, Copy)]
-pub(crate) enum Field {
+enum Field {
     Dark,
     White,
 }
 
 impl Field {
     /// What the field is called.
-    pub(crate) fn name(self) -> &'static str {
+    fn name(self) -> &'static str {
         match self {
             Field::Dark => "dark",
             Field::White => "white",
@@ -40,7 +43,7 @@ impl Field {
     }
 
     /// The level at a place of the field. The dark field is faint, and the white one rises across the overlap.
-    pub(crate) fn level(self, at: usize) -> u8
+    fn level(self, at: usize) -> u8
         requires { ⌜ at < 2048 ⌝ }
     {
         let row = at / COLUMNS;
@@ -50,6 +53,17 @@ impl Field {
             Field::White => 96 + row / 2 + column * 2,
         };
         level as u8
+    }
+}
+
+/// The level at a place of the table.
+pub(crate) fn table_level(at: usize) -> u8
+    requires { ⌜ at < 4096 ⌝ }
+{
+    if at < FIELD_LEN {
+        Field::Dark.level(at)
+    } else {
+        Field::White.level(at - FIELD_LEN)
     }
 }
 

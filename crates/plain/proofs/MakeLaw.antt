@@ -18,7 +18,7 @@ use Rattle.plain.specs.Names.{isName}
 use Rattle.plain.specs.Paths.{pathOf, front, final}
 use Rattle.plain.specs.Trees.{Dir, free, file, end, leaf, dir, Place, flat, deep, at, setAt, find, firstFree, size, isFree, hasName, nameAt, named, used, frees, append, walk, Tree, Plain, rootPlace, slash}
 use Rattle.plain.specs.Operations.{make, makeOn, makeAt, makeIn, roomy, newNode, inside}
-use Rattle.plain.specs.Laws.{Sight, nothing, aFile, aDir, sight, see, namesAt, newSight, withName, Renamed, Tidy, TidyDir, TidyBelow}
+use Rattle.plain.specs.Laws.{Sight, nothing, aFile, aDir, sight, see, namesAt, newSight, withName, NameChanged, Tidy, TidyDir, TidyBelow}
 use Rattle.plain.proofs.Indices.{index, passing, index-none, index-more, index-passes, index-at-most, passing-append}
 use Rattle.plain.proofs.Rows.{row, isFreePlace, row-at, row-size, row-set, row-find, row-free, row-named, row-append, row-frees}
 use Rattle.plain.proofs.Walking.{same-name, self-name, other-name, found, found-other, found-new, walk-append, walk-free}
@@ -205,10 +205,10 @@ module _ (isDir : Bool) (path : List ℕ) (t t′ : Tree) (w : MadeAt isDir path
       ∙ ap sight (new-below isDir (w .n) (t .nextQid) y r)
       ∙ sym (ap (λ p. sight (walk (y ∷ r) p)) (absent-free (w .n) c (w .absent) .0) ∙ ap sight (walk-free r))
 
-  pub made-renamed : Tidy t → Renamed (w .ns) (w .n) withName (newSight isDir (t .nextQid)) t t′
-  made-renamed tidy =
+  pub made-name : Tidy t → NameChanged (w .ns) (w .n) withName (newSight isDir (t .nextQid)) t t′
+  made-name tidy =
       let b = tidy-walk (w .ns) slash (t .root) (t .places) (w .name) (w .head) c (w .leads) (tidy .here) (tidy .below) in
-      subst (λ u. Renamed (w .ns) (w .n) withName (newSight isDir (t .nextQid)) t u) (sym (w .is))
+      subst (λ u. NameChanged (w .ns) (w .n) withName (newSight isDir (t .nextQid)) t u) (sym (w .is))
       (record {
         is = see-in (w .ns) (w .n) t (t .nextQid + 1) (w .name) (w .head) c (makeIn x) (w .leads) (w .n ∷ []) ∙ ap sight there ∙ new-seen isDir (w .n) (t .nextQid);
         head = w .head;

@@ -16,7 +16,7 @@ use Rattle.plain.specs.Names.{isName}
 use Rattle.plain.specs.Paths.{pathOf, front, final}
 use Rattle.plain.specs.Trees.{Dir, free, file, end, leaf, dir, Place, flat, deep, at, setAt, find, size, hasName, nameAt, named, used, child, walk, Tree, Plain, rootPlace, slash}
 use Rattle.plain.specs.Operations.{remove, removeOn, removeAt, removeIn, inside}
-use Rattle.plain.specs.Laws.{Sight, nothing, aFile, aDir, sight, see, namesAt, withoutName, Renamed, Tidy, TidyDir, TidyBelow}
+use Rattle.plain.specs.Laws.{Sight, nothing, aFile, aDir, sight, see, namesAt, withoutName, NameChanged, Tidy, TidyDir, TidyBelow}
 use Rattle.plain.proofs.Walking.{same-name, other-name, found-other, found-within, walk-append, walk-free}
 use Rattle.plain.proofs.Changes.{front-final, Home, home, see-in, see-home, saw-home, see-others}
 use Rattle.plain.proofs.Filling.{remove-names}
@@ -121,9 +121,9 @@ module _ (path : List ℕ) (t t′ : Tree) (w : RemovedAt path t t′) (tidy : T
       ap (λ p. sight (walk (y ∷ r) p)) now-free ∙ ap sight (walk-free r)
       ∙ sym (ap (λ p. sight (walk (y ∷ r) p)) (h .there) ∙ ap sight (bare-below (w .node) (w .bare) y r))
 
-  pub removed-renamed : Renamed (w .ns) (w .n) withoutName nothing t t′
-  removed-renamed =
-      subst (λ u. Renamed (w .ns) (w .n) withoutName nothing t u) (sym (w .is))
+  pub removed-name : NameChanged (w .ns) (w .n) withoutName nothing t t′
+  removed-name =
+      subst (λ u. NameChanged (w .ns) (w .n) withoutName nothing t u) (sym (w .is))
       (record {
         is = see-in (w .ns) (w .n) t (t .nextQid) (h .name) (h .head) c (removeIn (w .n)) (h .leads) (w .n ∷ []) ∙ ap sight now-free;
         head = h .head;

@@ -34,9 +34,16 @@ changed (mkdir path) t = tree.make true path t
 changed (write path off input) t = tree.write path off input t
 changed (remove path) t = tree.remove path t
 
-abbrev pub okOr : Result Tree ℕ → Tree → Tree
-okOr (Ok t′) t = t′
-okOr (Err n) t = t
+-- the values that an accepted change answers: of a write the count of its bytes, of the others none
+abbrev pub changeValues : Change → List ℕ
+changeValues (mkfile path) = []
+changeValues (mkdir path) = []
+changeValues (write path off input) = length input ∷ []
+changeValues (remove path) = []
+
+-- what a change answers by the tree's own rules, with the tree that it leaves
+abbrev pub applied : Change → Tree → Answer × Tree
+applied c t = elim (changed c t) [ Ok t′ ↦ (accepted (changeValues c), t′) | Err n ↦ (refused (row n), t) ]
 
 -- the dumps with those that wait now written, and without them
 abbrev pub allWritten : List Dump → List Dump
@@ -54,7 +61,7 @@ lastTree t (d ∷ ds) = lastTree (d .tree) ds
 
 -- what an accepted call with its values does to the book
 abbrev pub feed : Call → List ℕ → Book → Book
-feed (change date c) values b = record { live = okOr (changed c (b .live)) (b .live); dumps = b .dumps }
+feed (change date c) values b = record { live = applied c (b .live) .1; dumps = b .dumps }
 feed (query date q) values b = b
 feed (dump date) values b = record { live = b .live; dumps = b .dumps ++ (record { date = date; tree = b .live; isWritten = false } ∷ []) }
 feed carry [] b = b

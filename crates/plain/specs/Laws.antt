@@ -88,7 +88,7 @@ abbrev pub newSight : Bool → ℕ → Sight
 newSight isDir q = cond isDir (aDir (record { qid = q; version = 0 }) []) (aFile (record { qid = q; version = 0; bytes = [] }))
 
 -- a call that changes the names of the directory at ns by one, to those that f gives, and what is at that name from one sight to another
-pub record Renamed (ns : List (List ℕ)) (n : List ℕ) (f : List (List ℕ) → List ℕ → List (List ℕ)) (new : Sight) (t t′ : Tree) : Type 0 where
+pub record NameChanged (ns : List (List ℕ)) (n : List ℕ) (f : List (List ℕ) → List ℕ → List (List ℕ)) (new : Sight) (t t′ : Tree) : Type 0 where
   pub is : see (ns ++ n ∷ []) t′ ≡ new
   pub head : Dir
   pub names : List (List ℕ)
@@ -103,10 +103,10 @@ pub record TreeLaws : Type 0 where
       (ns : List (List ℕ)) × (pathOf path ≡ Some ns) × Wrote ns off input t t′
   pub make-law : (isDir : Bool) (path : List ℕ) (t t′ : Tree) → Tidy t → make isDir path t ≡ Ok t′ →
       (ns : List (List ℕ)) × (n : List ℕ) × (pathOf path ≡ Some (ns ++ n ∷ [])) × (see (ns ++ n ∷ []) t ≡ nothing) × (t′ .nextQid ≡ t .nextQid + 1)
-      × Renamed ns n withName (newSight isDir (t .nextQid)) t t′
+      × NameChanged ns n withName (newSight isDir (t .nextQid)) t t′
   pub remove-law : (path : List ℕ) (t t′ : Tree) → Tidy t → remove path t ≡ Ok t′ →
       (ns : List (List ℕ)) × (n : List ℕ) × (pathOf path ≡ Some (ns ++ n ∷ [])) × (see (ns ++ n ∷ []) t ≡ nothing → ⊥) × (t′ .nextQid ≡ t .nextQid)
-      × Renamed ns n withoutName nothing t t′
+      × NameChanged ns n withoutName nothing t t′
   pub empty-tidy : Tidy emptyTree
   pub write-tidy : (path : List ℕ) (off : ℕ) (input : List ℕ) (t t′ : Tree) → Tidy t → write path off input t ≡ Ok t′ → Tidy t′
   pub make-tidy : (isDir : Bool) (path : List ℕ) (t t′ : Tree) → Tidy t → make isDir path t ≡ Ok t′ → Tidy t′

@@ -1,19 +1,15 @@
 -- Computed examples of paths, of the plain tree and of the reference model; docs/MODEL.md works them out by hand.
 use mathlib.Core.Path.{_≡_}
-use mathlib.Core.Bool.{true, false}
 use mathlib.Core.List.{List, [], _∷_}
 use Prim.Native.Nat.{ℕ, zero, suc, _+_, _/_, _%_}
 use lib.Chars.{codes}
 use lib.ListN.{replicate}
-use Rattle.std.specs.Results.{isOk}
 use Rattle.std.specs.declared.option.Option.the-variants.{Some, None}
-use Rattle.std.specs.declared.result.Result.the-variants.{Ok, Err}
 use Rattle.plain.specs.Paths.{pathOf}
-use Rattle.plain.specs.Trees.{free, file, Places, end, leaf, dir, Tree, Plain, emptyTree}
-use Rattle.plain.specs.Operations as tree
+use Rattle.plain.specs.Trees.{file, end, leaf, Tree, Plain, emptyTree}
 use Rattle.plain.specs.Refusals.{row}
-use Rattle.plain.specs.Histories.{mkfile, write, read, Call, change, query, dump, carry, recover, Answer, accepted, refused, Event, History}
-use Rattle.plain.specs.Books.{Book, emptyBook, bookFrom, listed, ask}
+use Rattle.plain.specs.Histories.{mkfile, mkdir, write, read, Call, change, query, dump, carry, recover, Answer, accepted, refused, Event, History}
+use Rattle.plain.specs.Books.{emptyBook, applied, bookFrom, listed, ask}
 
 -- a tree whose root has these places
 abbrev rooted : Plain → Tree
@@ -58,11 +54,11 @@ pub record Vectors : Type 0 where
   pub no-name : pathOf (codes "/a//b") ≡ None
   pub nine-names : pathOf (codes "/a/b/c/d/e/f/g/h/i") ≡ None
   -- a file of 66,527 bytes takes one more, and then no more
-  pub last-byte : isOk (tree.write (codes "/f") 66527 (7 ∷ []) (sevens 66527)) ≡ true
-  pub full-file : tree.write (codes "/f") 66528 (7 ∷ []) (sevens 66528) ≡ Err 17
+  pub last-byte : applied (write (codes "/f") 66527 (7 ∷ [])) (sevens 66527) .0 ≡ accepted (1 ∷ [])
+  pub full-file : applied (write (codes "/f") 66528 (7 ∷ [])) (sevens 66528) ≡ (refused (row 17), sevens 66528)
   -- the 42nd name is accepted, the 43rd is not
-  pub last-name : isOk (tree.make false (codes "/x") (rooted (files 41 0))) ≡ true
-  pub full-dir : tree.make false (codes "/x") (rooted (files 42 0)) ≡ Err 18
+  pub last-name : applied (mkfile (codes "/x")) (rooted (files 41 0)) .0 ≡ accepted []
+  pub full-dir : applied (mkdir (codes "/x")) (rooted (files 42 0)) ≡ (refused (row 18), rooted (files 42 0))
   -- the dated answers of the story, and the live one
   pub on-5 : on 5 ≡ (accepted (1 ∷ []), 65 ∷ 0 ∷ [])
   pub on-7 : on 7 ≡ (accepted (1 ∷ []), 66 ∷ 0 ∷ [])

@@ -43,6 +43,7 @@ returns c = record {
   root-no-entry-of-a-tree = refl;
   last-direct = refl;
   first-indirect = refl;
+  last-indirect = refl;
   legal = refl;
   legal-empty = refl;
   legal-version = refl;

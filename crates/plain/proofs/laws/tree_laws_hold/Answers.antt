@@ -4,8 +4,8 @@ use Rattle.plain.specs.Names.{isName}
 use Rattle.plain.proofs.Everys.{every-last}
 use Rattle.plain.proofs.Pieces.{path-is}
 use Rattle.plain.proofs.WriteLaw.{write-law, write-tidy}
-use Rattle.plain.proofs.MakeLaw.{accepted-make, made-renamed, made-tidy, was-nothing}
-use Rattle.plain.proofs.RemoveLaw.{accepted-remove, removed-renamed, removed-tidy, was-something}
+use Rattle.plain.proofs.MakeLaw.{accepted-make, made-name, made-tidy, was-nothing}
+use Rattle.plain.proofs.RemoveLaw.{accepted-remove, removed-name, removed-tidy, was-something}
 use Rattle.plain.proofs.laws.tree_laws_hold.Needs as need
 
 pub returns : need.returns
@@ -13,11 +13,11 @@ returns c = record {
   write-law = write-law;
   make-law = λ isDir path t t′ tidy ok.
       let w = accepted-make isDir path t t′ ok in
-      (w .ns, w .n, w .path-is, was-nothing isDir path t t′ w, ap (λ u. u .nextQid) (w .is), made-renamed isDir path t t′ w tidy);
+      (w .ns, w .n, w .path-is, was-nothing isDir path t t′ w, ap (λ u. u .nextQid) (w .is), made-name isDir path t t′ w tidy);
   remove-law = λ path t t′ tidy ok.
       let w = accepted-remove path t t′ ok in
       let legal = every-last isName (w .ns) (w .n) (path-is path _ (w .path-is) .legal) in
-      (w .ns, w .n, w .path-is, was-something path t t′ w tidy legal, ap (λ u. u .nextQid) (w .is), removed-renamed path t t′ w tidy legal);
+      (w .ns, w .n, w .path-is, was-something path t t′ w tidy legal, ap (λ u. u .nextQid) (w .is), removed-name path t t′ w tidy legal);
   empty-tidy = record { here = record { differ = λ n. omega arith; sevens = refl; few = omega arith }; below = tt };
   write-tidy = write-tidy;
   make-tidy = λ isDir path t t′ tidy ok.
