@@ -27,21 +27,20 @@ files (suc n) i = leaf (file ((97 + i / 26) ∷ (97 + i % 26) ∷ []) (record { 
 abbrev did : Call → List ℕ → Event
 did c values = record { call = c; answer = accepted values; buffer = [] }
 
+abbrev writes : List ℕ → Event
+writes input = did (change 0 (write (codes "/n") 0 input)) (1 ∷ [])
+
+-- the four carries of a dump of three blocks and its super, after what came before them
+abbrev carried : History → History
+carried h = did carry (0 ∷ []) ∷ did carry (1 ∷ []) ∷ did carry (2 ∷ []) ∷ did carry (3 ∷ []) ∷ h
+
 -- "/n" is written A, dumped as 5 and carried; written B, dumped as 7 and carried; written C and dumped as 9, and then comes a recovery
 abbrev story : History
 story =
-    did recover (7 ∷ [])
-    ∷ did (dump 9) (4 ∷ [])
-    ∷ did (change 0 (write (codes "/n") 0 (codes "C"))) (1 ∷ [])
-    ∷ did carry (0 ∷ [])
-    ∷ did (dump 7) (1 ∷ [])
-    ∷ did (change 0 (write (codes "/n") 0 (codes "B"))) (1 ∷ [])
-    ∷ did carry (0 ∷ [])
-    ∷ did carry (1 ∷ [])
-    ∷ did (dump 5) (4 ∷ [])
-    ∷ did (change 0 (write (codes "/n") 0 (codes "A"))) (1 ∷ [])
-    ∷ did (change 0 (mkfile (codes "/n"))) []
-    ∷ []
+    did recover (7 ∷ []) ∷ did (dump 9) (4 ∷ []) ∷ writes (codes "C")
+    ∷ carried (did (dump 7) (4 ∷ []) ∷ writes (codes "B")
+    ∷ carried (did (dump 5) (4 ∷ []) ∷ writes (codes "A")
+    ∷ did (change 0 (mkfile (codes "/n"))) [] ∷ []))
 
 -- two bytes of "/n" on a date, into a buffer of zeros
 abbrev on : ℕ → Answer × List ℕ
