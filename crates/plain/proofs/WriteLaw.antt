@@ -15,7 +15,7 @@ use Rattle.std.proofs.shelf.Lists.{length-append, length-take, length-drop, len
 use Rattle.std.proofs.shelf.Tests.{and-parts, leb-true}
 use Rattle.plain.specs.Names.{isName}
 use Rattle.plain.specs.Paths.{pathOf, front, final}
-use Rattle.plain.specs.Trees.{File, Dir, free, file, Place, flat, deep, at, setAt, find, size, hasName, nameAt, walk, Tree, rootPlace, slash}
+use Rattle.plain.specs.Trees.{File, Dir, free, file, Place, flat, deep, at, setAt, find, size, hasName, nameAt, walk, Tree, Plain, rootPlace, slash}
 use Rattle.plain.specs.Operations.{write, writeOn, writeAt, written, writable, putFile, inside}
 use Rattle.plain.specs.Laws.{aFile, aDir, sight, see, namesAt, Wrote, Tidy}
 use Rattle.plain.proofs.Walking.{same-name, self-name, other-name, found-other, found-new, found-within, names-same, walk-free}
@@ -85,63 +85,81 @@ within-end off input f e = grind (arith, and-parts, leb-true)
 short-end : (off : ℕ) (input : List ℕ) (f : File) → writable off input f ≡ true → off + length input ≤ 66528
 short-end off input f e = grind (arith, and-parts, leb-true)
 
-pub write-law : (path : List ℕ) (off : ℕ) (input : List ℕ) (t t′ : Tree) → write path off input t ≡ Ok t′ → (ns : List (List ℕ)) × (pathOf path ≡ Some ns) × Wrote ns off input t t′
-write-law path off input t t′ ok = let w = accepted-write path off input t t′ ok in (w .ns ++ w .n ∷ [], w .path-is, wrote w)
-  where
-    wrote : (w : Written path off input t t′) → Wrote (w .ns ++ w .n ∷ []) off input t t′
-    wrote w =
-        let f = w .before in
-        let g = written off input f in
-        let h = home (w .ns) (w .n) t _ (w .at-path) (λ e. let z : _≡_ {A = ℕ} 0 1 = cc in omega arith) in
-        let c = h .places in
-        let i = find (w .n) c in
-        let p = flat (file (w .n) g tt) in
-        let v = found-within (w .n) c (λ e. let y : flat (file (w .label) f tt) ≡ flat free = sym (h .there) ∙ e in let z : _≡_ {A = ℕ} 0 1 = cc in omega arith) in
-        let label : w .n ≡ w .label = same-name _ _ (ap (hasName (w .n)) (sym (h .there)) ∙ v .1) in
-        let new = found-new (w .n) c i p (v .0) (self-name (w .n)) (omega arith) in
-        let off≤ = within-end off input f (w .fits) in
-        subst (λ u. Wrote (w .ns ++ w .n ∷ []) off input t u) (sym (w .is))
-        (record {
-          before = f;
-          was = ap sight (w .at-path);
-          is = see-in (w .ns) (w .n) t (t .nextQid) (h .name) (h .head) c (putFile (w .n) g) (h .leads) (w .n ∷ []) ∙ ap sight new;
-          input-there = input-there off input (f .bytes) off≤;
-          bytes-below = bytes-below off input (f .bytes) off≤;
-          bytes-above = bytes-above off input (f .bytes) off≤;
-          others = λ other ne.
-              see-others (w .ns) (w .n) t (t .nextQid) (h .name) (h .head) c (putFile (w .n) g) (h .leads)
-              (λ x x-ne. found-other x c i p (other-name x (w .n) x-ne) (ap (hasName x) (h .there) ∙ ap (sameBytes x) (sym label) ∙ other-name x (w .n) x-ne))
-              (λ y r. ap (λ z. sight (walk (y ∷ r) z)) new ∙ ap (λ z. sight (walk (y ∷ r) z)) (sym (h .there)))
-              other ne
-              (λ e. ap (λ l. see l (inside (w .ns) (putFile (w .n) g) (t .nextQid) t)) e
-              ∙ see-home (w .ns) (w .n) t (t .nextQid) (h .name) (h .head) c (putFile (w .n) g) (h .leads)
-              ∙ ap (aDir (h .head)) (names-same c i p (v .0) (label ∙ ap nameAt (sym (h .there))))
-              ∙ sym (saw-home (w .ns) (w .n) t (t .nextQid) (h .name) (h .head) c (putFile (w .n) g) (h .leads))
-              ∙ ap (λ l. see l t) (sym e));
-          next = refl;
-        })
+written-long : (off : ℕ) (input : List ℕ) (f : File) → writable off input f ≡ true → length (f .bytes) ≤ 66528 → length (written off input f .bytes) ≤ 66528
+written-long off input f e few =
+    let a = within-end off input f e in
+    let b = short-end off input f e in
+    simp (length-append, length-take, length-drop) (omega arith)
 
--- a write keeps a tidy tree tidy
-pub write-tidy : (path : List ℕ) (off : ℕ) (input : List ℕ) (t t′ : Tree) → Tidy t → write path off input t ≡ Ok t′ → Tidy t′
-write-tidy path off input t t′ tidy ok =
-    let w = accepted-write path off input t t′ ok in
-    let f = w .before in
-    let g = written off input f in
-    let h = home (w .ns) (w .n) t _ (w .at-path) (λ e. let z : _≡_ {A = ℕ} 0 1 = cc in omega arith) in
-    let c = h .places in
-    let i = find (w .n) c in
-    let p = flat (file (w .n) g tt) in
-    let v = found-within (w .n) c (λ e. let y : flat (file (w .label) f tt) ≡ flat free = sym (h .there) ∙ e in let z : _≡_ {A = ℕ} 0 1 = cc in omega arith) in
-    let label : w .n ≡ w .label = same-name _ _ (ap (hasName (w .n)) (sym (h .there)) ∙ v .1) in
-    let b = tidy-walk (w .ns) slash (t .root) (t .places) (h .name) (h .head) c (h .leads) (tidy .here) (tidy .below) in
-    let old : TidyPlace (flat (file (w .label) f tt)) = subst TidyPlace (h .there) (tidy-at c i (b .1)) in
-    let new : TidyPlace p = (ap isName label ∙ old .0, long off input f (w .fits) (old .1)) in
-    let dir = tidy-same c i p (v .0) (λ x. ap (sameBytes x) label ∙ ap (hasName x) (sym (h .there))) (b .0) in
-    let m = tidy-modify (putFile (w .n) g) (w .ns) slash (t .root) (t .places) (h .name) (h .head) c (h .leads) (tidy .here) (tidy .below) dir (tidy-set c i p (b .1) new) in
-    subst Tidy (sym (w .is)) (record { here = m .0; below = m .1 })
-  where
-    long : (off : ℕ) (input : List ℕ) (f : File) → writable off input f ≡ true → length (f .bytes) ≤ 66528 → length (written off input f .bytes) ≤ 66528
-    long off input f e few =
-        let a = within-end off input f e in
-        let b = short-end off input f e in
-        simp (length-append, length-take, length-drop) (omega arith)
+module _ (path : List ℕ) (off : ℕ) (input : List ℕ) (t t′ : Tree) (w : Written path off input t t′) where
+  abbrev before : File
+  before = w .before
+
+  abbrev after : File
+  after = written off input before
+
+  abbrev node : Place (Unit {0})
+  node = flat (file (w .label) before tt)
+
+  abbrev new : Place (Unit {0})
+  new = flat (file (w .n) after tt)
+
+  not-free : node ≡ flat free → ⊥
+  not-free e = let z : _≡_ {A = ℕ} 0 1 = cc in omega arith
+
+  abbrev h : Home (w .ns) (w .n) t node
+  h = home (w .ns) (w .n) t node (w .at-path) not-free
+
+  abbrev c : Plain
+  c = h .places
+
+  abbrev i : ℕ
+  i = find (w .n) c
+
+  in-dir : (i < size c) × (hasName (w .n) (at c i) ≡ true)
+  in-dir = found-within (w .n) c (λ e. not-free (sym (h .there) ∙ e))
+
+  label-is : w .n ≡ w .label
+  label-is = same-name _ _ (ap (hasName (w .n)) (sym (h .there)) ∙ in-dir .1)
+
+  now-new : at (putFile (w .n) after c) (find (w .n) (putFile (w .n) after c)) ≡ new
+  now-new = found-new (w .n) c i new (in-dir .0) (self-name (w .n)) (omega arith)
+
+  alike : (x : List ℕ) → (x ≡ w .n → ⊥) → at (putFile (w .n) after c) (find x (putFile (w .n) after c)) ≡ at c (find x c)
+  alike x ne =
+      let other = other-name x (w .n) ne in
+      found-other x c i new other (ap (hasName x) (h .there) ∙ ap (sameBytes x) (sym label-is) ∙ other)
+
+  home-same : see (w .ns) (inside (w .ns) (putFile (w .n) after) (t .nextQid) t) ≡ see (w .ns) t
+  home-same =
+      see-home (w .ns) (w .n) t (t .nextQid) (h .name) (h .head) c (putFile (w .n) after) (h .leads)
+      ∙ ap (aDir (h .head)) (names-same c i new (in-dir .0) (label-is ∙ ap nameAt (sym (h .there))))
+      ∙ sym (saw-home (w .ns) (w .n) t (t .nextQid) (h .name) (h .head) c (putFile (w .n) after) (h .leads))
+
+  pub wrote : Wrote (w .ns ++ w .n ∷ []) off input t t′
+  wrote =
+      let off≤ = within-end off input before (w .fits) in
+      subst (λ u. Wrote (w .ns ++ w .n ∷ []) off input t u) (sym (w .is))
+      (record {
+        before = before;
+        was = ap sight (w .at-path);
+        is = see-in (w .ns) (w .n) t (t .nextQid) (h .name) (h .head) c (putFile (w .n) after) (h .leads) (w .n ∷ []) ∙ ap sight now-new;
+        input-there = input-there off input (before .bytes) off≤;
+        bytes-below = bytes-below off input (before .bytes) off≤;
+        bytes-above = bytes-above off input (before .bytes) off≤;
+        others = λ other ne.
+            see-others (w .ns) (w .n) t (t .nextQid) (h .name) (h .head) c (putFile (w .n) after) (h .leads) alike
+            (λ y r. ap (λ z. sight (walk (y ∷ r) z)) now-new ∙ ap (λ z. sight (walk (y ∷ r) z)) (sym (h .there)))
+            other ne
+            (λ e. ap (λ l. see l (inside (w .ns) (putFile (w .n) after) (t .nextQid) t)) e ∙ home-same ∙ ap (λ l. see l t) (sym e));
+        next = refl;
+      })
+
+  pub wrote-tidy : Tidy t → Tidy t′
+  wrote-tidy tidy =
+      let b = tidy-walk (w .ns) slash (t .root) (t .places) (h .name) (h .head) c (h .leads) (tidy .here) (tidy .below) in
+      let old : TidyPlace node = subst TidyPlace (h .there) (tidy-at c i (b .1)) in
+      let fresh : TidyPlace new = (ap isName label-is ∙ old .0, written-long off input before (w .fits) (old .1)) in
+      let dir = tidy-same c i new (in-dir .0) (λ x. ap (sameBytes x) label-is ∙ ap (hasName x) (sym (h .there))) (b .0) in
+      let m = tidy-modify (putFile (w .n) after) (w .ns) slash (t .root) (t .places) (h .name) (h .head) c (h .leads) (tidy .here) (tidy .below) dir (tidy-set c i new (b .1) fresh) in
+      subst Tidy (sym (w .is)) (record { here = m .0; below = m .1 })
