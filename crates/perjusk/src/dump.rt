@@ -1,17 +1,12 @@
 //! A small dump, laid out by hand: the blocks of one file, which holds the table, its indirect block, a directory block, a root block
 //! and a super.
 ghost use Prim.Native.Nat.{_<_};
-use crate::pile::Pile;
 use crate::seam::TABLE_LEN;
 use crate::seam::table_level;
-use device::disc::DiscDevice;
 use device::fault::BLOCK_LEN;
 use device::fault::DeviceFault;
 use device::fault::DeviceFaultDisplay;
 use device::interface::Device;
-use layers::concatenation::ConcatenationDevice;
-use layers::fake_worm::FakeWormDevice;
-use layers::mirror::MirrorDevice;
 use layout::block::BODY_LEN;
 use layout::block::Tag;
 use layout::block::new_block;
@@ -55,7 +50,7 @@ const FILE_QID: u32 = 2;
 const NEXT_QID: u32 = 3;
 
 /// Writes the dump onto the pile, the super last, and prints a line for each part.
-pub(crate) fn lay_out(rt: &LibcRuntime, pile: &mut Pile) -> io::Result<()> {
+pub(crate) fn lay_out<D: Device>(rt: &LibcRuntime, pile: &mut D) -> io::Result<()> {
     report(rt, "blocks 5 to 13, the file blend", write_data(pile))?;
     let indirect = pile.write(INDIRECT, &indirect_block());
     report(rt, "block 4, its indirect block", indirect)?;
@@ -88,7 +83,7 @@ fn report(rt: &LibcRuntime, what: &str, answer: Result<(), DeviceFault>) -> io::
 }
 
 /// Writes the blocks of the file.
-fn write_data(pile: &mut Pile) -> Result<(), DeviceFault> {
+fn write_data<D: Device>(pile: &mut D) -> Result<(), DeviceFault> {
     for j in 0..FILE_BLOCKS {
         pile.write(DATA + j, &file_block(j as usize))?;
     }

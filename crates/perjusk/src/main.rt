@@ -11,7 +11,6 @@ use device::interface::Device;
 use layers::concatenation::ConcatenationDevice;
 use layers::fake_worm::FakeWormDevice;
 use layers::mirror::MirrorDevice;
-use pile::Pile;
 use seam::Part;
 use seam::PartDisplay;
 use seam::TABLE_BLOCKS;
@@ -35,7 +34,7 @@ fn main(rt: LibcRuntime) -> io::Result<()> {
 pub(crate) const TABLE: u32 = 16;
 
 /// Writes the table, block by block.
-fn store(rt: &LibcRuntime, pile: &mut Pile) -> io::Result<()> {
+fn store<D: Device>(rt: &LibcRuntime, pile: &mut D) -> io::Result<()> {
     for block in 0..TABLE_BLOCKS {
         let part = Part::of_block(block);
         let at = TABLE + block;
@@ -48,7 +47,7 @@ fn store(rt: &LibcRuntime, pile: &mut Pile) -> io::Result<()> {
 }
 
 /// Asks for what the pile refuses.
-fn show_refusals(rt: &LibcRuntime, pile: &mut Pile) -> io::Result<()> {
+fn show_refusals<D: Device>(rt: &LibcRuntime, pile: &mut D) -> io::Result<()> {
     let mut buf = [0; BLOCK_LEN];
     if let Err(fault) = pile.write(TABLE, &buf) {
         println!(rt, "write block {TABLE} again: {fault}")?;
@@ -66,7 +65,7 @@ fn show_refusals(rt: &LibcRuntime, pile: &mut Pile) -> io::Result<()> {
 }
 
 /// Reads the table through the damaged pile and compares it with what was written.
-fn read_back(rt: &LibcRuntime, pile: &mut Pile) -> io::Result<()> {
+fn read_back<D: Device>(rt: &LibcRuntime, pile: &mut D) -> io::Result<()> {
     let mut same = 0u32;
     for block in 0..TABLE_BLOCKS {
         let part = Part::of_block(block);

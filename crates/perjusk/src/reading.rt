@@ -1,14 +1,9 @@
 //! Reads a dump through the views of its blocks alone, and prints the tree that it finds.
 ghost use Prim.Native.Nat.{_≤_};
 use crate::dump::SUPER;
-use crate::pile::Pile;
-use device::disc::DiscDevice;
 use device::fault::BLOCK_LEN;
 use device::fault::DeviceFaultDisplay;
 use device::interface::Device;
-use layers::concatenation::ConcatenationDevice;
-use layers::fake_worm::FakeWormDevice;
-use layers::mirror::MirrorDevice;
 use layout::block::BODY_LEN;
 use layout::block::BlockView;
 use layout::block::ENTRY_COUNT;
@@ -21,7 +16,7 @@ use std::io;
 use std::str;
 
 /// Follows the first super to its tree, of "/" and the files in it, and prints a line for each thing found.
-pub(crate) fn show_tree(rt: &LibcRuntime, pile: &mut Pile) -> io::Result<()> {
+pub(crate) fn show_tree<D: Device>(rt: &LibcRuntime, pile: &mut D) -> io::Result<()> {
     let mut bytes = [0; BLOCK_LEN];
     if let Err(fault) = pile.read(SUPER, &mut bytes) {
         return println!(rt, "super: {fault}");
@@ -56,9 +51,9 @@ pub(crate) fn show_tree(rt: &LibcRuntime, pile: &mut Pile) -> io::Result<()> {
 }
 
 /// Prints the entries of a directory block, and of each file what is in its blocks.
-fn show_directory(
+fn show_directory<D: Device>(
     rt: &LibcRuntime,
-    pile: &mut Pile,
+    pile: &mut D,
     address: u32,
     next_qid: u32,
 ) -> io::Result<()> {
@@ -100,7 +95,7 @@ fn show_entry(rt: &LibcRuntime, entry: EntryView<'_>) -> io::Result<()> {
 }
 
 /// Prints a line for each block of a file, as the pointers lead to it.
-fn show_file(rt: &LibcRuntime, pile: &mut Pile, entry: EntryView<'_>) -> io::Result<()> {
+fn show_file<D: Device>(rt: &LibcRuntime, pile: &mut D, entry: EntryView<'_>) -> io::Result<()> {
     let mut indirect = [0; BLOCK_LEN];
     let address = entry.indirect();
     if address != 0 {
@@ -124,7 +119,7 @@ fn show_file(rt: &LibcRuntime, pile: &mut Pile, entry: EntryView<'_>) -> io::Res
 }
 
 /// Prints what the first bytes of a file's block are: levels of a field.
-fn show_data(rt: &LibcRuntime, pile: &mut Pile, address: u32, len: usize) -> io::Result<()>
+fn show_data<D: Device>(rt: &LibcRuntime, pile: &mut D, address: u32, len: usize) -> io::Result<()>
     requires { ⌜ len ≤ 504 ⌝ }
 {
     let mut bytes = [0; BLOCK_LEN];
