@@ -1,4 +1,5 @@
 //! Block devices: what every device means and owes, why it refuses, and discs over bytes in memory.
+#![tactic(auto)]
 
 pub mod cell_state;
 pub mod disc;

@@ -1,4 +1,5 @@
 //! The byte layouts of blocks: views that read them where they lie, writers, and the theorems that tie the two.
+#![tactic(auto)]
 
 pub mod block;
 pub mod entry;

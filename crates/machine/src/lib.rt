@@ -1,2 +1,4 @@
 //! Pure.
+#![tactic(auto)]
+
 pub fn nothing() {}

@@ -1,4 +1,6 @@
 //! Keeps the blend table of one seam on a pile of discs, and prints each thing that it does.
+#![tactic(auto)]
+
 mod dump;
 mod pile;
 mod reading;

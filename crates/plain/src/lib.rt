@@ -1,4 +1,5 @@
 //! What a user of the server believes: names and paths, the plain tree of files, and the reference model of dumps.
+#![tactic(auto)]
 
 mod bytes;
 pub mod fault;
