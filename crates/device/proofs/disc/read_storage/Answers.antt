@@ -5,31 +5,31 @@ use Rattle.device.proofs.Calls.{admitted, read_barred, read_refused, read_in, re
 use Rattle.device.specs.Storages.{disc_size_lem, disc_cell_lem, disc_held}
 use Rattle.device.proofs.disc.read_storage.Goals as goal
 
-pub returns-in-err-admit : goal.returns-in-err-admit
-returns-in-err-admit c =
+pub returns-in_err-admit : goal.returns-in_err-admit
+returns-in_err-admit c =
     let a = c.args in
-    read_barred (disc_meaning a.label a.kind a.storage.now) a.block a.buf.now _ _ c.from-residual.ensures.1
-    _ (c.blocks-in.ensures ∙ sym (disc_size_lem a.label a.kind a.storage.now)) c.in-err-admit.ensures
+    read_barred (disc_meaning a.label a.kind a.storage.now) a.block a.buf.now _ _ c.from_residual.ensures.1
+    _ (c.blocks_in.ensures ∙ sym (disc_size_lem a.label a.kind a.storage.now)) c.in_err-admit.ensures
 
-pub returns-in-err-readable : goal.returns-in-err-readable
-returns-in-err-readable c =
+pub returns-in_err-readable : goal.returns-in_err-readable
+returns-in_err-readable c =
     let a = c.args in
     let m = disc_meaning a.label a.kind a.storage.now in
-    let ok = admitted m _ a.block _ (c.blocks-in.ensures ∙ sym (disc_size_lem a.label a.kind a.storage.now)) c.in-ok-admit.ensures in
+    let ok = admitted m _ a.block _ (c.blocks_in.ensures ∙ sym (disc_size_lem a.label a.kind a.storage.now)) c.in_ok-admit.ensures in
     let within : a.block < disc_size a.storage.now = rw disc_size_lem at ok.1 in
     let at = disc_cell_lem a.label a.kind a.storage.now a.block within in
-    read_refused (disc_meaning a.label a.kind a.storage.now) a.block a.buf.now _ _ c.from-residual-in-err-readable.ensures.1
-    ok.0 ok.1 (c.in-err-readable.ensures ∙ ap (read_state (place_on a.label a.block)) (c.state-in.ensures ∙ ap state_of (sym at)))
+    read_refused (disc_meaning a.label a.kind a.storage.now) a.block a.buf.now _ _ c.from_residual-in_err-readable.ensures.1
+    ok.0 ok.1 (c.in_err-readable.ensures ∙ ap (read_state (place_on a.label a.block)) (c.state_in.ensures ∙ ap state_of (sym at)))
 
 pub returns : goal.returns
 returns c =
     let a = c.args in
     let m = disc_meaning a.label a.kind a.storage.now in
-    let ok = admitted m _ a.block _ (c.blocks-in.ensures ∙ sym (disc_size_lem a.label a.kind a.storage.now)) c.in-ok-admit.ensures in
+    let ok = admitted m _ a.block _ (c.blocks_in.ensures ∙ sym (disc_size_lem a.label a.kind a.storage.now)) c.in_ok-admit.ensures in
     let within : a.block < disc_size a.storage.now = rw disc_size_lem at ok.1 in
     let at = disc_cell_lem a.label a.kind a.storage.now a.block within in
-    let found = disc_held a.label a.kind a.storage.now a.block (sym c.state-in.ensures ∙ readable_held _ _ c.in-ok-readable.ensures) in
+    let found = disc_held a.label a.kind a.storage.now a.block (sym c.state_in.ensures ∙ readable_held _ _ c.in_ok-readable.ensures) in
     let n : a.block * 513 + 513 - (a.block * 513 + 1) ≡ 512 = omega arith in
     read_in (disc_meaning a.label a.kind a.storage.now) a.block a.buf.now _ ok.0 ok.1
-    (c.in-ok-readable.ensures ∙ ap (read_state (place_on a.label a.block)) (c.state-in.ensures ∙ ap state_of (sym at)))
-    (c.copy-from-slice.ensures.after ∙ ap (λ n. take n (drop (a.block * 513 + 1) a.storage.now)) n ∙ ap (λ x. contents x a.buf.now) (sym (at ∙ found))) refl
+    (c.in_ok-readable.ensures ∙ ap (read_state (place_on a.label a.block)) (c.state_in.ensures ∙ ap state_of (sym at)))
+    (c.copy_from_slice.ensures.after ∙ ap (λ n. take n (drop (a.block * 513 + 1) a.storage.now)) n ∙ ap (λ x. contents x a.buf.now) (sym (at ∙ found))) refl

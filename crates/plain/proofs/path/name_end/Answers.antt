@@ -12,18 +12,18 @@ returns-then-at-text c =
       | then-at-text-via-else-at-text+then-text-at-ne47 w ↦ end_none c.args.text.now c.args.at w.if-at-text.false w.if-text-at-ne47.true
     ]
 
-pub returns-then-is-name : goal.returns-then-is-name
-returns-then-is-name c =
+pub returns-then-is_name : goal.returns-then-is_name
+returns-then-is_name c =
     let text = c.args.text.now in
     let at = c.args.at in
-    let n : c.next-slash-end.result - (at + 1) ≡ length (first_piece (drop (at + 1) text)) = omega arith in
+    let n : c.next_slash-end.result - (at + 1) ≡ length (first_piece (drop (at + 1) text)) = omega arith in
     let p = ap (λ k. take k (drop (at + 1) text)) n ∙ piece_front (drop (at + 1) text) in
-    ap Some c.next-slash-end.ensures.value ∙ sym (end_by text at c.if-at-text.false _ c.if-text-at-ne47.false (sym (ap is_name p) ∙ sym c.if-is-name.ensures))
+    ap Some c.next_slash-end.ensures.value ∙ sym (end_by text at c.if-at-text.false _ c.if-text-at-ne47.false (sym (ap is_name p) ∙ sym c.if-is_name.ensures))
 
-pub returns-else-is-name : goal.returns-else-is-name
-returns-else-is-name c =
+pub returns-else-is_name : goal.returns-else-is_name
+returns-else-is_name c =
     let text = c.args.text.now in
     let at = c.args.at in
-    let n : c.next-slash-end.result - (at + 1) ≡ length (first_piece (drop (at + 1) text)) = omega arith in
+    let n : c.next_slash-end.result - (at + 1) ≡ length (first_piece (drop (at + 1) text)) = omega arith in
     let p = ap (λ k. take k (drop (at + 1) text)) n ∙ piece_front (drop (at + 1) text) in
-    sym (end_by text at c.if-at-text.false _ c.if-text-at-ne47.false (sym (ap is_name p) ∙ sym c.if-is-name.ensures))
+    sym (end_by text at c.if-at-text.false _ c.if-text-at-ne47.false (sym (ap is_name p) ∙ sym c.if-is_name.ensures))

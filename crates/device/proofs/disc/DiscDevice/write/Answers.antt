@@ -4,5 +4,5 @@ use Rattle.device.proofs.disc.DiscDevice.write.Goals as goal
 
 pub returns : goal.returns
 returns c =
-    let same : length c.write-storage.new.storage ≡ c.args.self.now.storage.len = omega arith in
-    rw (take_at, ← c.deref-mut.ensures.value) c.write-storage.ensures
+    let same : length c.write_storage.new.storage ≡ c.args.self.now.storage.len = omega arith in
+    rw (take_at, ← c.deref_mut.ensures.value) c.write_storage.ensures

@@ -7,7 +7,7 @@ use Rattle.plain.proofs.name.Name.new.Goals as goal
 pub invariant-of-result : goal.invariant-of-result
 invariant-of-result c =
     let e : take (length c.args.bytes.now) c.fill.new.buf ≡ c.args.bytes.now = rw c.fill.ensures (take_at c.args.bytes.now _ _ refl) in
-    (omega arith, (name_short c.args.bytes.now (sym c.if-not-is-name.ensures), (rw e (sym c.if-not-is-name.ensures), tt)))
+    (omega arith, (name_short c.args.bytes.now (sym c.if-not-is_name.ensures), (rw e (sym c.if-not-is_name.ensures), tt)))
 
 pub returns : goal.returns
 returns c = rw c.fill.ensures (take_at c.args.bytes.now _ _ refl)
