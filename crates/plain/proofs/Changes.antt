@@ -1,12 +1,12 @@
 -- What is seen of a tree after a change of one name in one directory.
-use Rattle.std.proofs.Common.{◌≡◌, ℕ, Bool, true, false, List, [], ◌∷◌, ◌++◌, sym, refl, ap, ◌∙◌, ⊎_elim, arith}
+use Rattle.std.proofs.Common.{◌≡◌, ℕ, true, false, List, [], ◌∷◌, ◌++◌, sym, refl, ap, ◌∙◌, ⊎_elim}
 use Rattle.std.specs.Str.{bytes_eq}
 use Rattle.std.proofs.lemmas.List.{append-nil}
 use Rattle.std.proofs.lemmas.Bool.{cases_Bool}
 use Rattle.plain.specs.Paths.{front, final}
-use Rattle.plain.specs.Trees.{Dir, Leaf, free, file, Places, Place, flat, deep, at, find, child, walk, modify, Tree, Plain, root_place, slash}
+use Rattle.plain.specs.Trees.{Dir, free, Place, flat, deep, at, find, child, walk, Tree, Plain, root_place, slash}
 use Rattle.plain.specs.Operations.{inside}
-use Rattle.plain.specs.Laws.{Sight, a_dir, sight, names_at, see}
+use Rattle.plain.specs.Laws.{a_dir, sight, names_at, see}
 use Rattle.plain.proofs.Walking.{same_name, apart_name, walk_append, walk_below, walk_aside, goes_on}
 
 pub front_final : (n : List ℕ) (ns : List (List ℕ)) → n ∷ ns ≡ front n ns ++ final n ns ∷ []

@@ -1,12 +1,12 @@
 -- A name that goes into the lowest empty place of a directory, and one that is taken out.
-use Rattle.std.proofs.Common.{◌≡◌, ℕ, zero, suc, ◌+◌, ◌<◌, ◌≤◌, Bool, true, false, cond, ltb, List, [], ◌∷◌, ◌++◌, map, length, get_or, set, replicate, sym, refl, ap, ◌∙◌, ⊎_elim, arith}
+use Rattle.std.proofs.Common.{◌≡◌, ℕ, suc, ◌<◌, ◌≤◌, Bool, true, false, cond, ltb, List, [], ◌∷◌, ◌++◌, map, length, set, replicate, sym, refl, ap, ◌∙◌, ⊎_elim, arith}
 use Rattle.std.specs.Str.{bytes_eq}
 use Rattle.std.proofs.lemmas.Bool.{cases_lt, lt-ltb, le-ltb}
-use Rattle.plain.specs.Trees.{free, file, Place, flat, deep, set_at, size, first_free, find, name_at, has_name, append, frees, Plain}
+use Rattle.plain.specs.Trees.{free, file, Place, flat, deep, size, first_free, find, name_at, has_name, append, frees, Plain}
 use Rattle.plain.specs.Operations.{roomy, make_in, remove_in}
 use Rattle.plain.specs.Laws.{names_at, with_name, without_name}
 use Rattle.plain.proofs.Indices.{index}
-use Rattle.plain.proofs.Rows.{row, is_free_place, row_size, row_set, row_find, row_free, row_append, row_frees, row_names}
+use Rattle.plain.proofs.Rows.{row, is_free_place, row_size, row_set, row_find, row_free, row_append, row_names}
 
 abbrev Spot : Type 0
 Spot = Place (Unit {0})

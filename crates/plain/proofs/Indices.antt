@@ -1,5 +1,5 @@
 -- The first element of a list that passes a test, and what a change of one element does to it.
-use Rattle.std.proofs.Common.{◌≡◌, ℕ, zero, suc, ◌+◌, ◌<◌, ◌≤◌, Bool, true, false, cond, List, [], ◌∷◌, ◌++◌, length, get_or, set, sym, refl, ap, ◌∙◌, arith}
+use Rattle.std.proofs.Common.{◌≡◌, ℕ, zero, suc, ◌+◌, ◌<◌, ◌≤◌, Bool, true, false, cond, List, [], ◌∷◌, ◌++◌, length, get_or, set, refl, ap, arith}
 
 -- the place of the first element that passes, the length if there is none
 abbrev pub index : {X : Type 0} → (X → Bool) → List X → ℕ

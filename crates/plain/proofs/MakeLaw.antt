@@ -1,19 +1,19 @@
 -- An accepted make.
-use Rattle.std.proofs.Common.{◌≡◌, ℕ, zero, suc, ◌+◌, ◌%◌, ◌<◌, ◌≤◌, Bool, true, false, cond, eqb, ltb, List, [], ◌∷◌, ◌++◌, length, get_or, set, replicate, Some, None, Ok, Err, Option, Result, sym, refl, ap, ◌∙◌, subst, ⊎_elim, arith}
+use Rattle.std.proofs.Common.{◌≡◌, ℕ, zero, suc, ◌+◌, ◌%◌, ◌<◌, ◌≤◌, Bool, true, false, cond, eqb, ltb, List, [], ◌∷◌, ◌++◌, length, get_or, Some, None, Ok, Err, Option, Result, sym, refl, ap, ◌∙◌, subst, ⊎_elim, arith}
 use Rattle.std.specs.Str.{bytes_eq}
 use Rattle.std.proofs.lemmas.List.{length-append, get_or_past}
 use Rattle.std.proofs.lemmas.Bool.{cases_lt, cases_Bool, lt-ltb, le-ltb, ltb-false, eqb-false}
 use Rattle.plain.specs.Names.{is_name}
 use Rattle.plain.specs.Paths.{path_of, front, final}
-use Rattle.plain.specs.Trees.{Dir, free, file, end, leaf, dir, Place, flat, deep, at, set_at, find, first_free, size, is_free, has_name, name_at, named, used, frees, append, walk, Tree, Plain, root_place, slash}
+use Rattle.plain.specs.Trees.{Dir, free, file, end, leaf, dir, Place, flat, deep, at, find, first_free, size, is_free, has_name, name_at, named, used, frees, append, walk, Tree, Plain, root_place, slash}
 use Rattle.plain.specs.Operations.{make, make_on, make_at, make_in, roomy, new_node, inside}
-use Rattle.plain.specs.Laws.{Sight, nothing, a_file, a_dir, sight, see, names_at, new_sight, with_name, NameChanged, Tidy, TidyDir, TidyBelow}
+use Rattle.plain.specs.Laws.{nothing, a_dir, sight, see, names_at, new_sight, with_name, NameChanged, Tidy, TidyDir, TidyBelow}
 use Rattle.plain.proofs.Indices.{index, passing, index_none, index_more, index_passes, index_at_most, passing_append}
-use Rattle.plain.proofs.Rows.{row, is_free_place, row_at, row_size, row_set, row_find, row_free, row_named, row_append, row_frees}
+use Rattle.plain.proofs.Rows.{row, is_free_place, row_at, row_size, row_find, row_free, row_named, row_append}
 use Rattle.plain.proofs.Walking.{same_name, self_name, other_name, found, found_other, found_new, walk_append, walk_free}
 use Rattle.plain.proofs.Changes.{front_final, see_in, see_home, saw_home, see_others}
 use Rattle.plain.proofs.Filling.{make_names}
-use Rattle.plain.proofs.Tidiness.{TidyPlace, tidy_walk, tidy_named, tidy_modify, tidy_set, tidy_same, named_set, size_set, name_long}
+use Rattle.plain.proofs.Tidiness.{TidyPlace, tidy_walk, tidy_named, tidy_modify, tidy_set, named_set, size_set}
 
 -- an accepted make is of a name that a directory lacks
 pub record MadeAt (is_dir : Bool) (path : List ℕ) (t t' : Tree) : Type 0 where

@@ -1,13 +1,13 @@
 -- An accepted removal.
-use Rattle.std.proofs.Common.{◌≡◌, ℕ, zero, suc, ◌+◌, ◌%◌, ◌<◌, ◌≤◌, Bool, true, false, cond, eqb, List, [], ◌∷◌, ◌++◌, length, Some, None, Ok, Err, Option, Result, sym, refl, ap, ◌∙◌, subst, arith}
+use Rattle.std.proofs.Common.{◌≡◌, ℕ, zero, suc, ◌+◌, ◌%◌, ◌<◌, Bool, true, false, cond, eqb, List, [], ◌∷◌, ◌++◌, Some, None, Ok, Err, Option, Result, sym, refl, ap, ◌∙◌, subst, arith}
 use Rattle.std.specs.Str.{bytes_eq}
 use Rattle.std.proofs.lemmas.Bool.{eqb-true}
 use Rattle.plain.specs.Names.{is_name}
 use Rattle.plain.specs.Paths.{path_of, front, final}
-use Rattle.plain.specs.Trees.{Dir, free, file, end, leaf, dir, Place, flat, deep, at, set_at, find, size, has_name, name_at, named, used, child, walk, Tree, Plain, root_place, slash}
+use Rattle.plain.specs.Trees.{free, file, end, leaf, dir, Place, flat, deep, at, find, size, has_name, named, used, walk, Tree, Plain, root_place, slash}
 use Rattle.plain.specs.Operations.{remove, remove_on, remove_at, remove_in, inside}
-use Rattle.plain.specs.Laws.{Sight, nothing, a_file, a_dir, sight, see, names_at, without_name, NameChanged, Tidy, TidyDir, TidyBelow}
-use Rattle.plain.proofs.Walking.{same_name, other_name, found_other, found_within, walk_append, walk_free}
+use Rattle.plain.specs.Laws.{nothing, a_dir, sight, see, names_at, without_name, NameChanged, Tidy, TidyDir, TidyBelow}
+use Rattle.plain.proofs.Walking.{same_name, other_name, found_other, found_within, walk_free}
 use Rattle.plain.proofs.Changes.{front_final, Home, home, see_in, see_home, saw_home, see_others}
 use Rattle.plain.proofs.Filling.{remove_names}
 use Rattle.plain.proofs.Tidiness.{tidy_walk, tidy_modify, tidy_set, named_set, size_set, name_long}

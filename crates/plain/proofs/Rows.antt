@@ -1,7 +1,7 @@
 -- The places of a directory as a list.
-use Rattle.std.proofs.Common.{◌≡◌, ℕ, zero, suc, ◌+◌, Bool, true, false, cond, List, [], ◌∷◌, ◌++◌, map, length, get_or, set, replicate, sym, refl, ap, ◌∙◌}
+use Rattle.std.proofs.Common.{◌≡◌, ℕ, zero, suc, ◌+◌, Bool, false, cond, List, [], ◌∷◌, ◌++◌, map, length, get_or, set, replicate, refl, ap}
 use Rattle.std.specs.Str.{bytes_eq}
-use Rattle.plain.specs.Trees.{Leaf, free, file, Places, end, leaf, dir, Place, flat, deep, put, size, at, set_at, is_free, name_at, has_name, first_free, find, named, used, frees, append, modify}
+use Rattle.plain.specs.Trees.{free, Places, end, leaf, dir, Place, flat, deep, put, size, at, set_at, is_free, name_at, has_name, first_free, find, named, frees, append}
 use Rattle.plain.specs.Laws.{names_at}
 use Rattle.plain.proofs.Indices.{index, passing}
 

@@ -1,8 +1,8 @@
 -- What read, stat and entry answer, from the sight of a place.
-use Rattle.std.proofs.Common.{◌≡◌, ℕ, zero, suc, ◌*◌, cond, leb, List, [], ◌∷◌, map, length, get_or, take, drop, Some, None, Ok, Err, Option, Result, sym, refl, ap, ◌∙◌}
+use Rattle.std.proofs.Common.{◌≡◌, ℕ, zero, suc, ◌*◌, cond, leb, List, [], length, get_or, take, drop, Some, Ok, Err, Result, sym, refl, ap, ◌∙◌}
 use Rattle.plain.specs.Paths.{path_of}
 use Rattle.plain.specs.Trees.{free, file, end, leaf, dir, Place, flat, deep, at, size, name_at, walk, Tree, Plain, root_place}
-use Rattle.plain.specs.Operations.{Stat, at_path, read_at, stat_at, entry_at, read, stat, entry}
+use Rattle.plain.specs.Operations.{Stat, at_path, read_at, stat_at, entry_at}
 use Rattle.plain.specs.Laws.{Sight, nothing, a_file, a_dir, sight, names_at, see, SightLaws}
 
 names_size : (c : Plain) → size c ≡ length (names_at c)

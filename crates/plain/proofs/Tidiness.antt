@@ -1,9 +1,9 @@
 -- Tidy directories, and how a change in one keeps all of them tidy.
-use Rattle.std.proofs.Common.{◌≡◌, ℕ, zero, suc, ◌+◌, ◌%◌, ◌<◌, ◌≤◌, Bool, true, false, cond, leb, List, [], ◌∷◌, ◌++◌, length, get_or, set, sym, refl, ap, ◌∙◌, subst, arith}
+use Rattle.std.proofs.Common.{◌≡◌, ℕ, zero, suc, ◌+◌, ◌%◌, ◌<◌, true, cond, leb, List, [], ◌∷◌, length, set, sym, refl, ap, ◌∙◌, subst, arith}
 use Rattle.std.proofs.lemmas.List.{length-set}
 use Rattle.std.proofs.lemmas.Bool.{and_parts, leb-true}
 use Rattle.plain.specs.Names.{every, name_byte, is_name}
-use Rattle.plain.specs.Trees.{Dir, Leaf, free, file, end, leaf, dir, Place, flat, deep, put, at, set_at, size, find, has_name, named, walk, child, modify, Plain}
+use Rattle.plain.specs.Trees.{Dir, free, file, end, leaf, dir, Place, flat, deep, put, at, set_at, size, find, has_name, named, walk, modify, Plain}
 use Rattle.plain.specs.Laws.{TidyDir, TidyLeaf, TidyBelow}
 use Rattle.plain.proofs.Indices.{passing, passing_set}
 use Rattle.plain.proofs.Rows.{row, row_at, row_size, row_set, row_named}

@@ -1,12 +1,12 @@
 -- Where names lead before and after a change in one directory.
-use Rattle.std.proofs.Common.{◌≡◌, ℕ, zero, suc, ◌+◌, ◌<◌, ◌≤◌, Bool, true, false, cond, ◌⊎◌, List, [], ◌∷◌, ◌++◌, map, length, get_or, set, sym, refl, ap, ◌∙◌, subst, inl, inr, ⊎_elim, arith, rules}
+use Rattle.std.proofs.Common.{◌≡◌, ℕ, suc, ◌<◌, ◌≤◌, Bool, true, false, cond, ◌⊎◌, List, [], ◌∷◌, ◌++◌, map, length, get_or, set, sym, refl, ap, ◌∙◌, inl, inr, ⊎_elim, arith}
 use Rattle.std.specs.Str.{bytes_eq}
 use Rattle.std.proofs.lemmas.Slice.Eq.{bytes_eq-Decides}
 use Rattle.std.proofs.lemmas.List.{map-set, set-get_or, get_or-map, get_or_past}
 use Rattle.std.proofs.lemmas.Bool.{cases_lt, cases_Bool}
-use Rattle.plain.specs.Trees.{Dir, Leaf, free, file, Places, end, leaf, dir, Place, flat, deep, put, size, at, set_at, name_at, has_name, find, child, walk, modify}
+use Rattle.plain.specs.Trees.{Dir, Leaf, free, Places, end, leaf, dir, Place, flat, deep, size, at, set_at, name_at, has_name, find, child, walk, modify}
 use Rattle.plain.specs.Laws.{names_at, a_dir, sight}
-use Rattle.plain.proofs.Indices.{index, index_bound, index_passes, index_miss, index_hit}
+use Rattle.plain.proofs.Indices.{index, index_passes, index_miss, index_hit}
 use Rattle.plain.proofs.Rows.{row, row_at, row_size, row_set, row_find, row_names}
 
 -- names are the same if the test says so, and apart if it does not

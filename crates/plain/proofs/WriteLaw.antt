@@ -1,14 +1,14 @@
 -- An accepted write.
-use Rattle.std.proofs.Common.{◌≡◌, ℕ, ◌+◌, ◌<◌, ◌≤◌, Bool, true, false, cond, ◌&&◌, leb, List, [], ◌∷◌, ◌++◌, length, take, drop, Some, None, Ok, Err, Option, Result, sym, refl, ap, ◌∙◌, subst, arith}
+use Rattle.std.proofs.Common.{◌≡◌, ℕ, ◌+◌, ◌<◌, ◌≤◌, Bool, true, false, cond, List, [], ◌∷◌, ◌++◌, length, take, drop, Some, None, Ok, Err, Option, Result, sym, refl, ap, ◌∙◌, subst, arith}
 use Rattle.std.specs.Str.{bytes_eq}
 use Rattle.std.proofs.lemmas.List.{length-append, length-take, length-drop, length-take-le, take_at, drop_at, drop-drop}
 use Rattle.std.proofs.lemmas.Bool.{and_parts, leb-true}
 use Rattle.plain.specs.Names.{is_name}
 use Rattle.plain.specs.Paths.{path_of, front, final}
-use Rattle.plain.specs.Trees.{File, Dir, free, file, Place, flat, deep, at, set_at, find, size, has_name, name_at, walk, Tree, Plain, root_place, slash}
+use Rattle.plain.specs.Trees.{File, free, file, Place, flat, deep, at, find, size, has_name, name_at, walk, Tree, Plain, root_place, slash}
 use Rattle.plain.specs.Operations.{write, write_on, write_at, written, writable, put_file, inside}
-use Rattle.plain.specs.Laws.{a_file, a_dir, sight, see, names_at, Wrote, Tidy}
-use Rattle.plain.proofs.Walking.{same_name, self_name, other_name, found_other, found_new, found_within, names_same, walk_free}
+use Rattle.plain.specs.Laws.{a_dir, sight, see, Wrote, Tidy}
+use Rattle.plain.proofs.Walking.{same_name, self_name, other_name, found_other, found_new, found_within, names_same}
 use Rattle.plain.proofs.Tidiness.{TidyPlace, tidy_at, tidy_set, tidy_same, tidy_walk, tidy_modify}
 use Rattle.plain.proofs.Changes.{front_final, Home, home, see_in, see_home, saw_home, see_others}
 

@@ -4,7 +4,7 @@ use Rattle.plain.specs.Paths.{path_of}
 use Rattle.plain.specs.Trees.{Tree, empty_tree}
 use Rattle.plain.specs.Operations as tree
 use Rattle.plain.specs.Refusals.{row}
-use Rattle.plain.specs.Histories.{Change, mkfile, mkdir, write, remove, Query, read, stat, entry, Call, change, query, dump, carry, recover, account, Answer, accepted, refused, Event, History}
+use Rattle.plain.specs.Histories.{Change, mkfile, mkdir, write, remove, Query, read, stat, entry, Call, change, query, dump, carry, recover, account, Answer, accepted, refused, History}
 
 -- an accepted dump; it is written once its super is
 pub record Dump : Type 0 where

@@ -1,7 +1,7 @@
 -- What the calls answer on the plain tree and make of it. A refusal is its number; docs/REFUSALS.md has the rows.
-use Rattle.std.specs.Prelude.{ℕ, ◌+◌, ◌*◌, ◌%◌, ◌^◌, Bool, cond, not, ◌&&◌, List, [], ◌∷◌, ◌++◌, length, take, drop, Some, None, Ok, Err, Option, Result, ◌==◌, nat_le, nat_lt}
+use Rattle.std.specs.Prelude.{ℕ, ◌+◌, ◌*◌, ◌%◌, ◌^◌, Bool, cond, ◌&&◌, List, [], ◌∷◌, ◌++◌, length, take, drop, Some, None, Ok, Err, Option, Result, ◌==◌, nat_le, nat_lt}
 use Rattle.plain.specs.Paths.{path_of, front, final}
-use Rattle.plain.specs.Trees.{File, Dir, Leaf, free, file, Places, end, Place, flat, deep, size, at, set_at, first_free, find, named, used, name_at, frees, append, walk, modify, Tree, Plain, root_place}
+use Rattle.plain.specs.Trees.{File, free, file, end, Place, flat, deep, size, at, set_at, first_free, find, named, used, name_at, frees, append, walk, modify, Tree, Plain, root_place}
 
 -- what is at a path, or row 11
 abbrev pub at_path : {X : Type 0} → List ℕ → Tree → (Place (Unit {0}) → Result X ℕ) → Result X ℕ

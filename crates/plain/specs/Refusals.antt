@@ -1,5 +1,5 @@
 -- Refusals of the server's calls as docs/REFUSALS.md shows them: a number, and the values that go with it.
-use Rattle.std.specs.Prelude.{ℕ, Some, None, Option}
+use Rattle.std.specs.Prelude.{ℕ, Option}
 use Rattle.std.specs.Option.{option_map}
 use Rattle.device.specs.Refusals as device
 use Rattle.plain.specs.declared.fault.TreeFault.{TreeFault}

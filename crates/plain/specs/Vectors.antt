@@ -3,7 +3,7 @@ use Rattle.std.specs.Prelude.{◌≡◌, ℕ, zero, suc, ◌+◌, ◌/◌, ◌%�
 use Rattle.plain.specs.Paths.{path_of}
 use Rattle.plain.specs.Trees.{file, end, leaf, Tree, Plain, empty_tree}
 use Rattle.plain.specs.Refusals.{row}
-use Rattle.plain.specs.Histories.{mkfile, mkdir, write, read, Call, change, query, dump, carry, recover, Answer, accepted, refused, Event, History}
+use Rattle.plain.specs.Histories.{mkfile, mkdir, write, read, Call, change, dump, carry, recover, Answer, accepted, refused, Event, History}
 use Rattle.plain.specs.Books.{empty_book, applied, book_from, listed, ask}
 
 -- a tree whose root has these places

@@ -1,4 +1,4 @@
-use Rattle.std.proofs.Common.{[], ◌∷◌, ◌++◌, sym, refl, ap, ◌∙◌, arith}
+use Rattle.std.proofs.Common.{[], ◌∷◌, ◌++◌, refl, ap, arith}
 use Rattle.plain.specs.Names.{is_name}
 use Rattle.plain.proofs.Everys.{every_last}
 use Rattle.plain.proofs.Pieces.{path_is}

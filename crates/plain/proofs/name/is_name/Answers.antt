@@ -1,7 +1,7 @@
-use Rattle.std.proofs.Common.{◌≡◌, true, false, leb, length, sym, ap, ◌∙◌, arith}
+use Rattle.std.proofs.Common.{◌≡◌, true, leb, length, sym, arith}
 use Rattle.std.proofs.lemmas.List.{take_all}
 use Rattle.std.proofs.lemmas.Bool.{le-leb, eqb-false, and_from, and_right}
-use Rattle.plain.specs.Names.{every, name_byte, is_name}
+use Rattle.plain.specs.Names.{every, name_byte}
 use Rattle.plain.proofs.Everys.{every_more, every_not}
 use Rattle.plain.proofs.name.is_name.Goals as goal
 

@@ -1,6 +1,5 @@
-use Rattle.std.proofs.Common.{◌≡◌, ℕ, ◌+◌, List, length, drop, Some, sym, ap, ◌∙◌, arith}
+use Rattle.std.proofs.Common.{◌≡◌, ◌+◌, Some, sym, ap, ◌∙◌, arith}
 use Rattle.std.proofs.lemmas.List.{drop_all}
-use Rattle.plain.specs.Paths.{names_in}
 use Rattle.plain.proofs.Pieces.{names_end, names_end_none, end_within, count_more}
 use Rattle.plain.proofs.path.count_names.Goals as goal
 

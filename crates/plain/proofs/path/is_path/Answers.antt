@@ -1,4 +1,3 @@
-use Rattle.std.proofs.Common.{sym}
 use Rattle.plain.proofs.Pieces.{is_root_lem}
 use Rattle.plain.proofs.path.is_path.Goals as goal
 

@@ -1,4 +1,4 @@
-use Rattle.std.proofs.Common.{◌≡◌, ◌+◌, ◌-◌, Bool, length, take, drop, Some, sym, ap, ◌∙◌, arith}
+use Rattle.std.proofs.Common.{◌≡◌, ◌+◌, ◌-◌, length, take, drop, Some, sym, ap, ◌∙◌, arith}
 use Rattle.plain.specs.Names.{is_name}
 use Rattle.plain.specs.Paths.{first_piece}
 use Rattle.plain.proofs.Pieces.{end_none, end_past, end_by, piece_front}
