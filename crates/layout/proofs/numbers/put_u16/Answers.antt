@@ -6,4 +6,4 @@ use Rattle.layout.proofs.numbers.put_u16.Goals as goal
 pub returns : goal.returns
 unfolding bytes16
 returns c =
-    put_is c.args.at (c.args.at + 2) c.args.bytes.now c.copy-from-slice.new.self (bytes16 c.args.number) (c.copy-from-slice.ensures.after ∙ c.to-be-bytes.ensures) refl
+    put_is c.args.at (c.args.at + 2) c.args.bytes.now c.copy_from_slice.new.self (bytes16 c.args.number) (c.copy_from_slice.ensures.after ∙ c.to_be_bytes.ensures) refl

@@ -16,7 +16,7 @@ loop-i-preserved c =
     let numbers = c.args.numbers.now in
     let done = flat_map bytes32 (take i numbers) in
     let long : length (flat_map bytes32 (take i numbers)) ≡ 4 * i = length_joined bytes32 4 length_bytes32 (take i numbers) ∙ ap (λ n. 4 * n) (length-take-le i numbers (omega arith)) in
-    c.put-u32.ensures ∙ rw c.loop-i.invariant (patched_patched at c.args.bytes.now (omega arith) done (bytes32 (get_or numbers i 0)) (4 * i) long)
+    c.put_u32.ensures ∙ rw c.loop-i.invariant (patched_patched at c.args.bytes.now (omega arith) done (bytes32 (get_or numbers i 0)) (4 * i) long)
     ∙ ap (λ new. patched at new c.args.bytes.now) (flat_map_more bytes32 [] (take i numbers) (get_or numbers i 0) ∙ ap (flat_map bytes32) (sym (take_more numbers i 0 c.loop-i-test.true)))
 
 pub returns : goal.returns

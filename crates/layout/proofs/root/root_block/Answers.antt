@@ -5,4 +5,4 @@ use Rattle.layout.proofs.root.root_block.Goals as goal
 
 pub returns : goal.returns
 unfolding root_block directory_block block entry_bytes fit patched bytes16 bytes32
-returns c = simp (c.write-entry.ensures.after, c.write-entry.ensures.done, c.new-block-bytes.ensures, c.name_field.ensures)
+returns c = simp (c.write_entry.ensures.after, c.write_entry.ensures.done, c.new_block-bytes.ensures, c.name_field.ensures)

@@ -10,7 +10,7 @@ returns-then-block-split g c =
     let s = c.args.self.now in
     let a = g.A.Device.meaning s.first in
     let b = g.B.Device.meaning s.second in
-    let ok = admitted (meaning_of g.A.Device g.B.Device s) _ c.args.block _ c.size.ensures c.in-ok-admit.ensures in
+    let ok = admitted (meaning_of g.A.Device g.B.Device s) _ c.args.block _ c.size.ensures c.in_ok-admit.ensures in
     let lt : c.args.block < size a = omega arith in
     record {
       cells = first_read s.label a b c.args.block c.args.buf.now c.read.result ok.0 ok.1 lt c.read.ensures;
@@ -23,7 +23,7 @@ returns-else-block-split g c =
     let s = c.args.self.now in
     let a = g.A.Device.meaning s.first in
     let b = g.B.Device.meaning s.second in
-    let ok = admitted (meaning_of g.A.Device g.B.Device s) _ c.args.block _ c.size.ensures c.in-ok-admit.ensures in
+    let ok = admitted (meaning_of g.A.Device g.B.Device s) _ c.args.block _ c.size.ensures c.in_ok-admit.ensures in
     let ge : size a ≤ c.args.block = omega arith in
     let h = rw c.size-split.ensures at c.read-else-block-split.ensures in
     record {

@@ -3,8 +3,8 @@ use Rattle.layers.specs.Concatenations.{joins}
 use Rattle.layers.specs.Joins.{joined_size}
 use Rattle.layers.proofs.concatenation.ConcatenationDevice.size.Goals as goal
 
-pub returns-then-total-le-MOST-BLOCKS : goal.returns-then-total-le-MOST-BLOCKS
-returns-then-total-le-MOST-BLOCKS g c =
+pub returns-then-total-le-MOST_BLOCKS : goal.returns-then-total-le-MOST_BLOCKS
+returns-then-total-le-MOST_BLOCKS g c =
     let s = c.args.self.now in
     let a = g.A.Device.meaning s.first in
     let b = g.B.Device.meaning s.second in

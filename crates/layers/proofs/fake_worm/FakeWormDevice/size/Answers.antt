@@ -3,4 +3,4 @@ use Rattle.layers.specs.Worms.{worm_size_lem}
 use Rattle.layers.proofs.fake_worm.FakeWormDevice.size.Goals as goal
 
 pub returns : goal.returns
-returns g c = let s = c.args.self.now in c.blocks-over.ensures ∙ sym (worm_size_lem s.label (g.A.Device.meaning s.below))
+returns g c = let s = c.args.self.now in c.blocks_over.ensures ∙ sym (worm_size_lem s.label (g.A.Device.meaning s.below))

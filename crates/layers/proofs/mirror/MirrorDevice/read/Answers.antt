@@ -9,9 +9,9 @@ returns-then-eq g c =
     let s = c.args.self.now in
     let a = g.A.Device.meaning s.first in
     let b = g.B.Device.meaning s.second in
-    let ok = admitted (meaning_of g.A.Device g.B.Device s) _ c.args.block _ c.size.ensures c.in-ok-admit.ensures in
+    let ok = admitted (meaning_of g.A.Device g.B.Device s) _ c.args.block _ c.size.ensures c.in_ok-admit.ensures in
     record {
-      cells = mirror_read_first s.label a b c.args.block c.args.buf.now ok.0 ok.1 c.read.result c.read.ensures (sym c.after-read-first.ensures ∙ c.if-eq.ensures);
+      cells = mirror_read_first s.label a b c.args.block c.args.buf.now ok.0 ok.1 c.read.result c.read.ensures (sym c.after_read-first.ensures ∙ c.if-eq.ensures);
       first = c.read.ensures.same;
       second = refl;
     }
@@ -21,11 +21,11 @@ returns g c =
     let s = c.args.self.now in
     let a = g.A.Device.meaning s.first in
     let b = g.B.Device.meaning s.second in
-    let ok = admitted (meaning_of g.A.Device g.B.Device s) _ c.args.block _ c.size.ensures c.in-ok-admit.ensures in
+    let ok = admitted (meaning_of g.A.Device g.B.Device s) _ c.args.block _ c.size.ensures c.in_ok-admit.ensures in
     record {
       cells = mirror_read_second s.label a b c.args.block c.args.buf.now ok.0 ok.1 c.read.result c.read-2.result c.readable.result
-          c.read.ensures c.read-2.ensures (λ e. c.if-eq.ensures (c.after-read-first.ensures ∙ e))
-          (c.readable.ensures ∙ rw (c.place-place.ensures, c.merge.ensures, c.after-read-first.ensures, c.after-read-second.ensures));
+          c.read.ensures c.read-2.ensures (λ e. c.if-eq.ensures (c.after_read-first.ensures ∙ e))
+          (c.readable.ensures ∙ rw (c.place-place.ensures, c.merge.ensures, c.after_read-first.ensures, c.after_read-second.ensures));
       first = c.read.ensures.same;
       second = c.read-2.ensures.same;
     }

@@ -11,5 +11,5 @@ returns c =
     let named : length e.name ≡ 28 = omega arith in
     let six : length e.direct ≡ 6 = omega arith in
     fields_written e old named six (omega arith) c.number.ensures
-    (put_is 0 28 old c.copy-from-slice.new.self e.name c.copy-from-slice.ensures.after (omega arith))
-    c.put-u16.ensures c.put-u16-2.ensures c.put-u32s.ensures c.put-u32s-2.ensures c.put-u32.ensures
+    (put_is 0 28 old c.copy_from_slice.new.self e.name c.copy_from_slice.ensures.after (omega arith))
+    c.put_u16.ensures c.put_u16-2.ensures c.put_u32s.ensures c.put_u32s-2.ensures c.put_u32.ensures
