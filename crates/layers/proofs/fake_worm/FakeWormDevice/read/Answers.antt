@@ -5,8 +5,8 @@ use Rattle.layers.specs.FakeWorms.{meaning_of, bit_block, or_spoiled}
 use Rattle.layers.specs.Worms.{within, worm_bounded, unread, was_read, worm_read_spoiled, worm_read_held, worm_read_blank}
 use Rattle.layers.proofs.fake_worm.FakeWormDevice.read.Goals as goal
 
-pub overflow-add-at : goal.overflow-add-at
-overflow-add-at g c = let n = g.A.Device.meaning c.args.self.now.below in omega (arith, worm_bounded n (g.met.A.Device.sound c.args.self.now.below))
+pub overflow_add-at : goal.overflow_add-at
+overflow_add-at g c = let n = g.A.Device.meaning c.args.self.now.below in omega (arith, worm_bounded n (g.met.A.Device.sound c.args.self.now.below))
 
 pub returns-in_err-or_spoiled : goal.returns-in_err-or_spoiled
 returns-in_err-or_spoiled g c =

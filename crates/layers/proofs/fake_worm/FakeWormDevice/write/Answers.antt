@@ -6,8 +6,8 @@ use Rattle.layers.specs.Touches.{accepted}
 use Rattle.layers.specs.Worms.{held_is, within, worm_bounded, unread, was_read, unwritten, was_written, worm_write_spoiled, worm_write_held, worm_stored}
 use Rattle.layers.proofs.fake_worm.FakeWormDevice.write.Goals as goal
 
-pub overflow-add-at : goal.overflow-add-at
-overflow-add-at g c = let n = g.A.Device.meaning c.args.self.now.below in omega (arith, worm_bounded n (g.met.A.Device.sound c.args.self.now.below))
+pub overflow_add-at : goal.overflow_add-at
+overflow_add-at g c = let n = g.A.Device.meaning c.args.self.now.below in omega (arith, worm_bounded n (g.met.A.Device.sound c.args.self.now.below))
 
 pub returns-in_err-or_spoiled : goal.returns-in_err-or_spoiled
 returns-in_err-or_spoiled g c =

@@ -1,4 +1,8 @@
-use Rattle.std.proofs.Common.{sym, refl, ◌∙◌}
+use Rattle.std.proofs.Common.{rules, sym, ap, refl, ◌∙◌}
+use Rattle.std.proofs.lemmas.Bool.{false≢true}
+use denote.Enum.Bare.{sameb, same_true}
+use Rattle.device.specs.contracts.cell_state.CellState.{the_type}
+use Rattle.device.specs.declared.cell_state.CellState.TheVariants.{Held}
 use Rattle.device.proofs.Calls.{admitted}
 use Rattle.layers.specs.Mirrors.{meaning_of}
 use Rattle.layers.specs.Sides.{mirror_read_first, mirror_read_second}
@@ -11,7 +15,7 @@ returns-then-eq g c =
     let b = g.B.Device.meaning s.second in
     let ok = admitted (meaning_of g.A.Device g.B.Device s) _ c.args.block _ c.size.ensures c.in_ok-admit.ensures in
     record {
-      cells = mirror_read_first s.label a b c.args.block c.args.buf.now ok.0 ok.1 c.read.result c.read.ensures (sym c.after_read-first.ensures ∙ c.if-eq.ensures);
+      cells = mirror_read_first s.label a b c.args.block c.args.buf.now ok.0 ok.1 c.read.result c.read.ensures (sym c.after_read-first.ensures ∙ same_true the_type (search rules) _ _ (sym c.if-eq.ensures));
       first = c.read.ensures.same;
       second = refl;
     }
@@ -24,7 +28,7 @@ returns g c =
     let ok = admitted (meaning_of g.A.Device g.B.Device s) _ c.args.block _ c.size.ensures c.in_ok-admit.ensures in
     record {
       cells = mirror_read_second s.label a b c.args.block c.args.buf.now ok.0 ok.1 c.read.result c.read-2.result c.readable.result
-          c.read.ensures c.read-2.ensures (λ e. c.if-eq.ensures (c.after_read-first.ensures ∙ e))
+          c.read.ensures c.read-2.ensures (λ e. false≢true (c.if-eq.ensures ∙ ap (λ x. sameb the_type x Held) (c.after_read-first.ensures ∙ e)))
           (c.readable.ensures ∙ rw (c.place-place.ensures, c.merge.ensures, c.after_read-first.ensures, c.after_read-second.ensures));
       first = c.read.ensures.same;
       second = c.read-2.ensures.same;
