@@ -1,6 +1,6 @@
 -- Bodies of blocks: the bytes of a file, parts of one length, and the numbers of a super.
 use Rattle.std.proofs.Common.{◌≡◌, ℕ, ◌+◌, ◌*◌, ◌^◌, ◌<◌, ◌≤◌, true, List, ◌++◌, length, get_or, take, set, replicate, sym, refl, ap, ◌∙◌, ⊎_elim, mul-le-mul_left, mul-suc, arith}
-use Rattle.std.specs.List.{flat_map, AllByRecursion as All}
+use Rattle.std.specs.List.{flat_map, AllByRecursion}
 use Rattle.std.proofs.lemmas.List.{length-set, take_at, take-take, get_or_past}
 use Rattle.std.proofs.lemmas.Bool.{cases_lt}
 use Rattle.layout.specs.declared.super_block.Super.{Super}
@@ -67,7 +67,7 @@ pub entry_written : (owner : ℕ) (entries : List Entry) (k : ℕ) (e : Entry) �
 unfolding directory_block
 entry_written owner entries k e h = part_written entry_bytes 72 7 empty_entry length_entry_bytes refl 2 owner entries k e h
 
-pub super_numbers_lem : (s : Super) → All (λ n. n < 2 ^ 32) (super_numbers s) → super_of (super_block s) ≡ s
+pub super_numbers_lem : (s : Super) → AllByRecursion (λ n. n < 2 ^ 32) (super_numbers s) → super_of (super_block s) ≡ s
 unfolding super_block block fit bytes32
 super_numbers_lem s h = (λ i. record {
   number = number32_bytes32 s.number h.0 i;

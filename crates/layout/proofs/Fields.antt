@@ -1,7 +1,7 @@
 -- The fields of entries.
 use Rattle.std.proofs.Common.{◌≡◌, ℕ, ◌+◌, ◌-◌, ◌*◌, ◌^◌, ◌<◌, ◌≤◌, List, [], ◌∷◌, ◌++◌, length, get_or, take, replicate, refl, ap, ◌∙◌, arith}
 use borrow.Rule.Slice.PartMut.{put_mid}
-use Rattle.std.specs.List.{flat_map, AllByRecursion as All}
+use Rattle.std.specs.List.{flat_map, AllByRecursion}
 use Rattle.std.proofs.lemmas.List.{length-append, append_assoc, take_at, drop_at}
 use Rattle.layout.specs.Numbers.{bytes16, bytes32, number16, number32, bytes_at, fit, patched}
 use Rattle.layout.specs.Entries.{Entry, empty_entry, entry_bytes, until_zero, name_of, mode_of, reserved_of, qid_of, version_of, size_of, direct_of, indirect_of}
@@ -39,7 +39,7 @@ module _ (e : Entry) (old : List ℕ) (named : length e.name ≡ 28) (six : leng
 
 -- what is read back
 module _ (e : Entry) where
-  pub entry_name : length e.name ≤ 27 → All (λ b. 0 < b) e.name → name_of (entry_bytes e) ≡ e.name
+  pub entry_name : length e.name ≤ 27 → AllByRecursion (λ b. 0 < b) e.name → name_of (entry_bytes e) ≡ e.name
   unfolding entry_bytes
   entry_name short h = ap until_zero (take_at _ _ 28 (length_fit 28 0 e.name)) ∙ until_fit 27 e.name h short
 

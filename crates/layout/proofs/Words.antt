@@ -1,6 +1,6 @@
 -- The bytes before the first zero.
 use Rattle.std.proofs.Common.{◌≡◌, ℕ, zero, suc, ◌+◌, ◌<◌, ◌≤◌, List, [], ◌∷◌, ◌++◌, length, get_or, take, drop, replicate, refl, ap, ◌∙◌, arith}
-use Rattle.std.specs.List.{AllByRecursion as All}
+use Rattle.std.specs.List.{AllByRecursion}
 use Rattle.std.proofs.lemmas.List.{at_drop_more}
 use Rattle.layout.specs.Numbers.{fit}
 use Rattle.layout.specs.Entries.{until_zero}
@@ -27,12 +27,12 @@ module _ (bs : List ℕ) (i : ℕ) (within : i < length bs) where
   until_more ne = ap length (at_drop_more until_zero bs i 0 within) ∙ until_step (get_or bs i 0) (drop (i + 1) bs) ne
 
 -- a word without zeros, filled with zeros
-until_cut : (n : ℕ) (bs zs : List ℕ) → All (λ b. 0 < b) bs → length bs < n → until_zero (take n (bs ++ (0 ∷ zs))) ≡ bs
+until_cut : (n : ℕ) (bs zs : List ℕ) → AllByRecursion (λ b. 0 < b) bs → length bs < n → until_zero (take n (bs ++ (0 ∷ zs))) ≡ bs
 until_cut zero bs zs h l = absurd (omega arith)
 until_cut (suc n) [] zs h l = refl
 until_cut (suc n) (zero ∷ bs) zs h l = absurd (omega arith)
 until_cut (suc n) (suc b ∷ bs) zs h l = ap (λ r. suc b ∷ r) (until_cut n bs zs h.1 (omega arith))
 
-pub until_fit : (n : ℕ) (bs : List ℕ) → All (λ b. 0 < b) bs → length bs ≤ n → until_zero (fit (suc n) 0 bs) ≡ bs
+pub until_fit : (n : ℕ) (bs : List ℕ) → AllByRecursion (λ b. 0 < b) bs → length bs ≤ n → until_zero (fit (suc n) 0 bs) ≡ bs
 unfolding fit
 until_fit n bs h l = until_cut (suc n) bs (replicate n 0) h (omega arith)

@@ -1,6 +1,6 @@
 -- What is written is read back, and nothing else changes.
 use Rattle.std.specs.Prelude.{◌≡◌, ℕ, ◌+◌, ◌*◌, ◌^◌, ◌<◌, ◌≤◌, true, ◌⊎◌, List, length, take, slice_index, slice_index_or, slice_set}
-use Rattle.std.specs.List.{AllByRecursion as All}
+use Rattle.std.specs.List.{AllByRecursion}
 use Rattle.layout.specs.declared.super_block.Super.{Super}
 use Rattle.layout.specs.Numbers.{bytes16, bytes32, number16, number32, bytes_at, patched, fit}
 use Rattle.layout.specs.Blocks.{body_of, pad_of, tag_of, owner_of, legal_pad, block, file_block, indirect_block, address_of}
@@ -29,7 +29,7 @@ pub record RoundTrips : Type 0 where
   pub address_written : (owner : ℕ) (addresses : List ℕ) (j a : ℕ) → j < 126 →
       patched (4 * j) (bytes32 a) (indirect_block owner addresses) ≡ indirect_block owner (slice_set (fit 126 0 addresses) j a)
   -- each field of an entry
-  pub name : (e : Entry) → length e.name ≤ 27 → All (λ b. 0 < b) e.name → name_of (entry_bytes e) ≡ e.name
+  pub name : (e : Entry) → length e.name ≤ 27 → AllByRecursion (λ b. 0 < b) e.name → name_of (entry_bytes e) ≡ e.name
   pub mode : (e : Entry) → e.mode < 2 ^ 16 → mode_of (entry_bytes e) ≡ e.mode
   pub reserved : (e : Entry) → reserved_of (entry_bytes e) ≡ 0
   pub qid : (e : Entry) → e.qid < 2 ^ 32 → qid_of (entry_bytes e) ≡ e.qid
@@ -43,5 +43,5 @@ pub record RoundTrips : Type 0 where
   pub entry_written : (owner : ℕ) (entries : List Entry) (k : ℕ) (e : Entry) → k < 7 →
       patched (72 * k) (entry_bytes e) (directory_block owner entries) ≡ directory_block owner (slice_set (fit 7 empty_entry entries) k e)
   -- a super
-  pub numbers : (s : Super) → All (λ n. n < 2 ^ 32) (super_numbers s) → super_of (super_block s) ≡ s
+  pub numbers : (s : Super) → AllByRecursion (λ n. n < 2 ^ 32) (super_numbers s) → super_of (super_block s) ≡ s
   pub legal : (s : Super) → legal_super (super_block s) ≡ true

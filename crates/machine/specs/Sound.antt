@@ -1,6 +1,6 @@
 -- What holds of the state between calls, beside the reference model.
 use Rattle.std.specs.Prelude.{◌≡◌, ℕ, suc, ◌+◌, ◌^◌, ◌<◌, ◌≤◌, true, false, List, [], ◌∷◌, ◌++◌, length, Some, None, Ok, Option}
-use Rattle.std.specs.List.{AllByRecursion as All}
+use Rattle.std.specs.List.{AllByRecursion}
 use Rattle.plain.specs.Trees.{Tree}
 use Rattle.plain.specs.Books.{Dump, Book}
 use Rattle.layout.specs.declared.super_block.Super.{Super}
@@ -25,7 +25,7 @@ pub record Keeps (m : BlockMap) (limit root : ℕ) (t : Tree) : Type 0 where
 pub record Living (d : Shelf) (xs : Spots) (root : ℕ) (t : Tree) : Type 0 where
   pub keeps : Keeps (live_map d xs) (length xs) root t
   pub used : (a : ℕ) → 0 < is_dirty (spot_at xs a) → 0 < uses a (blocks_of keeps.stored)
-  pub closed : All (λ b. is_dirty (spot_at xs b.address) ≡ 0 → (a : ℕ) → 0 < count a (pointers b.content) → is_dirty (spot_at xs a) ≡ 0) (blocks_of keeps.stored)
+  pub closed : AllByRecursion (λ b. is_dirty (spot_at xs b.address) ≡ 0 → (a : ℕ) → 0 < count a (pointers b.content) → is_dirty (spot_at xs a) ≡ 0) (blocks_of keeps.stored)
 
 -- a super of the chain: the n-th, after one at `before` with the date `after`
 pub record Link (limit before n after : ℕ) (x : Super) : Type 0 where
@@ -34,7 +34,7 @@ pub record Link (limit before n after : ℕ) (x : Super) : Type 0 where
   pub date : after < x.date
   pub root : InRange limit x.root
   pub next : InRange limit x.next
-  pub small : All (λ k. k < 2 ^ 32) (super_numbers x)
+  pub small : AllByRecursion (λ k. k < 2 ^ 32) (super_numbers x)
 
 -- Supers from the address a on, one after the other; then comes the address e, after the last super at l with the date d'.
 abbrev pub Chain : BlockMap → ℕ → ℕ → ℕ → ℕ → ℕ → List Super → ℕ → ℕ → ℕ → Type 0

@@ -1,6 +1,6 @@
 -- What names lead to changes: what becomes of the blocks, the addresses and the notes of all that is above it and beside it.
 use Rattle.std.proofs.Common.{◌≡◌, ℕ, zero, suc, ◌+◌, ◌*◌, ◌/◌, ◌<◌, ◌≤◌, ◌≢◌, ◌⊎◌, List, [], ◌∷◌, ◌++◌, length, get_or, sym, refl, ap, ◌∙◌, subst, inl, inr, ⊎_elim, arith}
-use Rattle.std.specs.List.{AllByRecursion as All}
+use Rattle.std.specs.List.{AllByRecursion}
 use Rattle.std.proofs.ByRecursion.{All-set, All-get_or}
 use Rattle.plain.specs.Trees.{Dir, Leaf, free, Places, Place, flat, deep, size, at, set_at, find, walk}
 use Rattle.plain.proofs.Walking.{walk_free, found_within}
@@ -56,21 +56,21 @@ alter_fits (n ∷ ns) f (deep m d w c) h k =
 pub record Sound (m : BlockMap) (p : Place Stored) : Type 0 where
   pub fits : PlaceFits p
   pub once : (a : ℕ) → uses a (place_blocks p) ≤ 1
-  pub stand : All (Stands m) (place_blocks p)
+  pub stand : AllByRecursion (Stands m) (place_blocks p)
 
 module _ (m : BlockMap) (n : List ℕ) (d : Dir) (w : Stored) (c : Places Stored) (s : Sound m (deep n d w c)) where
-  abbrev pub own_stand : All (Stands m) (own_blocks d w c) × All (All (Stands m)) (row_blocks c)
+  abbrev pub own_stand : AllByRecursion (Stands m) (own_blocks d w c) × AllByRecursion (AllByRecursion (Stands m)) (row_blocks c)
   own_stand = all_uninterleaved (Stands m) 7 (own_blocks d w c) (row_blocks c) s.stand
 
   pub sound_at : (i : ℕ) → i < size c → Sound m (at c i)
   sound_at i lt = record {
     fits = fits_at c i s.fits.1;
     once = λ a. omega (arith, s.once a, uses_deep a n d w c, uses_at a c i);
-    stand = subst (All (Stands m)) (row_at c i) (All-get_or (All (Stands m)) (row_blocks c) i [] (omega (arith, length_row c)) own_stand.1);
+    stand = subst (AllByRecursion (Stands m)) (row_at c i) (All-get_or (AllByRecursion (Stands m)) (row_blocks c) i [] (omega (arith, length_row c)) own_stand.1);
   }
 
-  pub rest_stand : (i : ℕ) → All (All (Stands m)) (row_blocks (set_at c i (flat free)))
-  rest_stand i = subst (All (All (Stands m))) (sym (row_set c i (flat free))) (All-set (All (Stands m)) (row_blocks c) i [] tt own_stand.1)
+  pub rest_stand : (i : ℕ) → AllByRecursion (AllByRecursion (Stands m)) (row_blocks (set_at c i (flat free)))
+  rest_stand i = subst (AllByRecursion (AllByRecursion (Stands m))) (sym (row_set c i (flat free))) (All-set (AllByRecursion (Stands m)) (row_blocks c) i [] tt own_stand.1)
 
   -- an address of another place is none of the directory's own, and none of this place
   pub rest_apart : (i a : ℕ) → i < size c → 0 < uses_all a (row_blocks (set_at c i (flat free))) → (count a w.blocks ≡ 0) × (uses a (place_blocks (at c i)) ≡ 0) × (0 < uses a (place_blocks (deep n d w c)))
@@ -89,7 +89,7 @@ module _ (m : BlockMap) (l : List ℕ) (f : Place Stored → Place Stored) where
   pub alter_rewritten : (ns : List (List ℕ)) (p : Place Stored) → Sound m p → (walk ns p ≡ flat free → ⊥) →
       ((a : ℕ) → 0 < count a (trail ns p) → 0 < count a l) →
       ((a : ℕ) → 0 < uses a (place_blocks p) → count a (trail ns p) ≡ 0 → uses a (place_blocks (walk ns p)) ≡ 0 → count a l ≡ 0) →
-      All (Rewritten m l) (place_blocks (f (walk ns p))) → All (Rewritten m l) (place_blocks (alter ns f p))
+      AllByRecursion (Rewritten m l) (place_blocks (f (walk ns p))) → AllByRecursion (Rewritten m l) (place_blocks (alter ns f p))
   alter_rewritten [] p s found hot aside new = new
   alter_rewritten (n ∷ ns) (flat x) s found hot aside new = absurd (found (walk_free ns))
   alter_rewritten (n ∷ ns) (deep k d w c) s found hot aside new =

@@ -1,6 +1,6 @@
 -- A check of a tree that passes has met the blocks of the tree that they decode to.
 use Rattle.std.proofs.Common.{◌≡◌, ℕ, zero, suc, ◌^◌, ◌<◌, ◌≤◌, true, eqb, List, [], ◌∷◌, map, length, drop, Ok, sym, refl, ap, ◌∙◌, subst, arith}
-use Rattle.std.specs.List.{AllByRecursion as All}
+use Rattle.std.specs.List.{AllByRecursion}
 use Rattle.std.proofs.ByRecursion.{All-drop, All-weaker}
 use Rattle.std.proofs.lemmas.Bool.{and_parts, eqb-true}
 use Rattle.plain.specs.Names.{every}
@@ -23,7 +23,7 @@ use Rattle.trees.proofs.Visits.{then_ok, grown_one, Visited, visit_judged, Kept}
 use Rattle.trees.proofs.Passes.{DirectoryPassed, directory_entry, directory_checked}
 
 -- empty places
-empties_back : (es : List (List ℕ)) → All Bytes72 es → every all_zero es ≡ true → map entry_bytes (entries (frees (length es))) ≡ es
+empties_back : (es : List (List ℕ)) → AllByRecursion Bytes72 es → every all_zero es ≡ true → map entry_bytes (entries (frees (length es))) ≡ es
 empties_back [] all none = refl
 empties_back (e ∷ es) all none =
     let both = and_parts (all_zero e) (every all_zero es) none in
@@ -35,7 +35,7 @@ empties_fit : (n : ℕ) → Fits (frees n)
 empties_fit zero = tt
 empties_fit (suc n) = (tt, empties_fit n)
 
-empties_kept : (P : Block → Type 0) (n : ℕ) → All (All P) (row_blocks (frees n))
+empties_kept : (P : Block → Type 0) (n : ℕ) → AllByRecursion (AllByRecursion P) (row_blocks (frees n))
 empties_kept P zero = tt
 empties_kept P (suc n) = (tt, empties_kept P n)
 
@@ -56,7 +56,7 @@ module _ (m : BlockMap) (limit next top : ℕ) (e met : List ℕ) (c : Places St
   abbrev tree : StoredTree
   tree = record { top = top; root = dir_of m e; stored = dir_stored m e; places = c; next_qid = next }
 
-  kept : All (Kept m limit) (blocks_of tree)
+  kept : AllByRecursion (Kept m limit) (blocks_of tree)
   kept = all_interleaved (Kept m limit) 7 (own_blocks head (note top) (root_places m e c)) (row_blocks (root_places m e c)) ((stands, within), tt)
       (all_interleaved (Kept m limit) 7 (own_blocks (dir_of m e) (dir_stored m e) c) (row_blocks c) p.own p.places.blocks, empties_kept (Kept m limit) 6)
 

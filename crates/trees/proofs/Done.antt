@@ -1,6 +1,6 @@
 -- From a change of what names lead to, the whole of what a change does.
 use Rattle.std.proofs.Common.{◌≡◌, ℕ, zero, suc, ◌+◌, ◌<◌, ◌≤◌, Bool, true, false, cond, eqb, ltb, ◌≢◌, ◌⊎◌, List, [], ◌∷◌, ◌++◌, length, Ok, sym, refl, ap, ◌∙◌, subst, inl, inr, ⊎_elim, arith}
-use Rattle.std.specs.List.{AllByRecursion as All}
+use Rattle.std.specs.List.{AllByRecursion}
 use Rattle.std.proofs.ByRecursion.{All-weaker}
 use Rattle.std.proofs.lemmas.Bool.{cases_eq, eq-eqb, ne_eqb, lt-ltb}
 use Rattle.plain.specs.Trees.{Place, flat, free, walk, slash, Tree}
@@ -13,10 +13,10 @@ use Rattle.trees.proofs.Placed.{Rewritten, Untouched}
 use Rattle.trees.proofs.Altered.{uses_walk, uses_trail, alter_uses, alter_fits, alter_rewritten, Sound}
 
 -- what holds of the address of each block holds of every address that is used, and the other way round
-pub all_by_use : (Q : ℕ → Type 0) (bs : List Block) → ((a : ℕ) → 0 < uses a bs → Q a) → All (λ b. Q b.address) bs
+pub all_by_use : (Q : ℕ → Type 0) (bs : List Block) → ((a : ℕ) → 0 < uses a bs → Q a) → AllByRecursion (λ b. Q b.address) bs
 all_by_use Q bs h = All-weaker (λ b. 0 < uses b.address bs) (λ b. Q b.address) (λ b k. h b.address k) bs (all_used bs)
 
-pub use_of_all : (Q : ℕ → Type 0) (bs : List Block) (a : ℕ) → All (λ b. Q b.address) bs → 0 < uses a bs → Q a
+pub use_of_all : (Q : ℕ → Type 0) (bs : List Block) (a : ℕ) → AllByRecursion (λ b. Q b.address) bs → 0 < uses a bs → Q a
 use_of_all Q [] a h k = absurd (omega arith)
 use_of_all Q (b ∷ bs) a h k = ⊎_elim (λ e. subst Q (sym e) h.0) (λ ne. use_of_all Q bs a h.1 (omega (arith, one_other a b.address ne))) (cases_eq a b.address)
 
@@ -36,7 +36,7 @@ module _ (m : BlockMap) (l : List ℕ) where
   written_there : (b : Block) (bs : List Block) (a : ℕ) → a ≢ b.address → written_at l (b ∷ bs) m a ≡ written_at l bs m a
   written_there b bs a ne = rw (ne_eqb a b.address ne)
 
-  pub written_stand : (bs : List Block) → ((a : ℕ) → uses a bs ≤ 1) → All (Rewritten m l) bs → All (Stands (written_at l bs m)) bs
+  pub written_stand : (bs : List Block) → ((a : ℕ) → uses a bs ≤ 1) → AllByRecursion (Rewritten m l) bs → AllByRecursion (Stands (written_at l bs m)) bs
   written_stand [] once h = tt
   written_stand (b ∷ bs) once h =
       let alone : uses b.address bs ≡ 0 = omega (arith, once b.address, one_same b.address) in (
@@ -64,7 +64,7 @@ module _ (m : BlockMap) (limit : ℕ) (t : StoredTree) (r : Represents m limit t
     pub blocks : (a : ℕ) → uses a (place_blocks (f new p)) + count a gone ≡ uses a (place_blocks p) + count a new
     pub fits : PlaceFits (f new p)
     pub own : (a : ℕ) → 0 < count a extra → (0 < uses a (place_blocks p)) × (count a gone ≡ 0)
-    pub rewritten : All (Rewritten m hot) (place_blocks (f new p))
+    pub rewritten : AllByRecursion (Rewritten m hot) (place_blocks (f new p))
 
   module _ (k : Node) (plain : erase (altered t ns (f new) next) ≡ u) (formed : WellFormed u) (top : (altered t ns (f new) next).top ≡ t.top) where
     abbrev t' : StoredTree
@@ -93,9 +93,9 @@ module _ (m : BlockMap) (limit : ℕ) (t : StoredTree) (r : Represents m limit t
     not_new : (a : ℕ) → 0 < uses a (blocks_of t) → count a new ≡ 0
     not_new a h = ⊎_elim (λ z. z) (λ c. absurd (omega (arith, ok.unused a c))) (zero_or (count a new))
 
-    rewritten : All (Rewritten m hot) (blocks_of t')
+    rewritten : AllByRecursion (Rewritten m hot) (blocks_of t')
     rewritten =
-        subst (λ q. All (Rewritten m hot) (place_blocks q)) (sym k.same)
+        subst (λ q. AllByRecursion (Rewritten m hot) (place_blocks q)) (sym k.same)
         (alter_rewritten m hot (f new) (slash ∷ ns) (whole t) sound k.found
         (λ a h. omega (arith, counts a))
         (λ a h z z'. omega (arith, counts a, z, not_new a h, ⊎_elim (λ y. y) (λ c. absurd (omega (arith, (k.own a c).0))) (zero_or (count a extra))))

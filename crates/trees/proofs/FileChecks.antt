@@ -1,6 +1,6 @@
 -- The check of a file that passes has met the blocks of the file that its entry decodes to.
 use Rattle.std.proofs.Common.{◌≡◌, ℕ, ◌+◌, ◌-◌, ◌*◌, ◌<◌, ◌≤◌, min, Bool, true, false, cond, ltb, List, [], ◌∷◌, ◌++◌, length, get_or, take, drop, Ok, sym, refl, ap, ◌∙◌, subst, ⊎_elim, arith}
-use Rattle.std.specs.List.{AllByRecursion as All}
+use Rattle.std.specs.List.{AllByRecursion}
 use Rattle.std.proofs.lemmas.List.FromFn.{length-map-range_with_len}
 use Rattle.std.proofs.ByRecursion.{All-append}
 use Rattle.std.proofs.lemmas.List.{length-append, length-take, length-drop, take_all, take_at, drop_at, take-append-drop, append-nil, nil_from_length}
@@ -32,21 +32,21 @@ module _ (m : BlockMap) (owner : ℕ) where
   body_long : (a : ℕ) → Data a → length (body_of (bytes_of (m a))) ≡ 504
   body_long a v = length_part 0 504 (bytes_of (m a)) (omega (arith, v.long))
 
-  bodies_long : (l : List ℕ) → All Data l → length (bodies_at m l) ≡ 504 * length l
+  bodies_long : (l : List ℕ) → AllByRecursion Data l → length (bodies_at m l) ≡ 504 * length l
   bodies_long [] h = refl
   bodies_long (a ∷ l) h = length-append (body_of (bytes_of (m a))) (bodies_at m l) ∙ omega (arith, body_long a h.0, bodies_long l h.1)
 
-  data_kept : (limit : ℕ) (l : List ℕ) → All Data l → All (InRange limit) l → All (Kept m limit) (in_blocks (file_content owner) 504 l (bodies_at m l))
+  data_kept : (limit : ℕ) (l : List ℕ) → AllByRecursion Data l → AllByRecursion (InRange limit) l → AllByRecursion (Kept m limit) (in_blocks (file_content owner) 504 l (bodies_at m l))
   data_kept limit [] h within = tt
   data_kept limit (a ∷ l) h within =
       let long = body_long a h.0 in
       let front = take_at (body_of (bytes_of (m a))) (bodies_at m l) 504 long in
       let stands = h.0.reads ∙ ap Ok (sym (ap (λ bs. encoded (file_content owner bs)) front ∙ file_back owner (bytes_of (m a)) h.0.long h.0.back)) in
       let rest = drop_at (body_of (bytes_of (m a))) (bodies_at m l) 504 long in
-      ((stands, within.0), subst (λ xs. All (Kept m limit) (in_blocks (file_content owner) 504 l xs)) (sym rest) (data_kept limit l h.1 within.1))
+      ((stands, within.0), subst (λ xs. AllByRecursion (Kept m limit) (in_blocks (file_content owner) 504 l xs)) (sym rest) (data_kept limit l h.1 within.1))
 
 module _ (m : BlockMap) (holds : HoldsBytes m) (limit next : ℕ) where
-  data_passed : (owner holder : ℕ) (l met met' : List ℕ) → check_data m limit next owner holder l met ≡ Ok met' → All (Data m owner) l × Meets met (λ x. count x l) met'
+  data_passed : (owner holder : ℕ) (l met met' : List ℕ) → check_data m limit next owner holder l met ≡ Ok met' → AllByRecursion (Data m owner) l × Meets met (λ x. count x l) met'
   data_passed owner holder [] met met' h = (tt, subst (λ l. Meets met (λ x. 0) l) (ok_same met met' h) (grown_none (λ x. refl)))
   data_passed owner holder (a ∷ l) met met' h =
       let first = then_ok (meet holder a met) _ met' h in
@@ -102,11 +102,11 @@ module _ (m : BlockMap) (holds : HoldsBytes m) (limit next holder : ℕ) (e : Li
       ap (λ n. take n (indirect_of e ∷ [])) one
 
   abbrev IndirectKept : List ℕ → Type 0
-  IndirectKept l = All (Kept m limit) (in_blocks (indirect_content (qid_of e)) 126 l (drop 6 (file_addresses m e)))
+  IndirectKept l = AllByRecursion (Kept m limit) (in_blocks (indirect_content (qid_of e)) 126 l (drop 6 (file_addresses m e)))
 
   pub record FilePassed (met met' : List ℕ) : Type 0 where
-    pub visited : All (Data m (qid_of e)) (file_addresses m e)
-    pub within : All (InRange limit) (file_addresses m e)
+    pub visited : AllByRecursion (Data m (qid_of e)) (file_addresses m e)
+    pub within : AllByRecursion (InRange limit) (file_addresses m e)
     pub indirect : IndirectKept indirects
     pub meets : Meets met (λ a. count a (file_addresses m e) + count a indirects) met'
 
@@ -114,8 +114,8 @@ module _ (m : BlockMap) (holds : HoldsBytes m) (limit next holder : ℕ) (e : Li
   passed_direct met met' le ok =
       let first = data_passed m holds limit next (qid_of e) holder (directs_of e) met met' ok in
       record {
-        visited = subst (All (Data m (qid_of e))) (sym (all_direct le)) first.0;
-        within = subst (All (InRange limit)) (sym (all_direct le)) (directs_within limit next e h);
+        visited = subst (AllByRecursion (Data m (qid_of e))) (sym (all_direct le)) first.0;
+        within = subst (AllByRecursion (InRange limit)) (sym (all_direct le)) (directs_within limit next e h);
         indirect = subst IndirectKept (sym (no_indirect le)) tt;
         meets = grown_same first.1 (λ a. omega (arith, ap (count a) (all_direct le), ap (count a) (no_indirect le)));
       }
@@ -184,9 +184,9 @@ module _ (m : BlockMap) (holds : HoldsBytes m) (limit next holder : ℕ) (e : Li
     entry_is : place_entry (file_at m e) ≡ entry_of e
     entry_is = λ i. record { name = name_of e; mode = sym is i; qid = qid_of e; version = version_of e; size = length_bytes i; direct = direct_is i; indirect = indirect_is i }
 
-    kept : All (Kept m limit) (place_blocks (file_at m e))
+    kept : AllByRecursion (Kept m limit) (place_blocks (file_at m e))
     kept = All-append (Kept m limit) _ _
-        (subst (λ bs. All (Kept m limit) (in_blocks (file_content (qid_of e)) 504 (file_addresses m e) bs)) (sym (take-append-drop (size_of e) (bodies_at m (file_addresses m e))))
+        (subst (λ bs. AllByRecursion (Kept m limit) (in_blocks (file_content (qid_of e)) 504 (file_addresses m e) bs)) (sym (take-append-drop (size_of e) (bodies_at m (file_addresses m e))))
         (data_kept m (qid_of e) limit (file_addresses m e) p.visited p.within))
         p.indirect
 

@@ -1,6 +1,6 @@
 -- What a tree's blocks hold at each of its places.
 use Rattle.std.proofs.Common.{◌≡◌, ℕ, zero, suc, ◌*◌, ◌%◌, ◌^◌, ◌<◌, ◌≤◌, true, false, ◌||◌, List, [], ◌∷◌, ◌++◌, length, get_or, drop, replicate, Ok, refl, ap, ◌∙◌, arith}
-use Rattle.std.specs.List.{AllByRecursion as All}
+use Rattle.std.specs.List.{AllByRecursion}
 use Rattle.std.proofs.ByRecursion.{All-get_or, All-from_get_or, All-take}
 use Rattle.std.proofs.lemmas.List.{length-take, length-drop, get_or_past, take_all}
 use Rattle.std.proofs.lemmas.Bool.{and_parts, and_from, leb-true, eq-eqb, le-leb}
@@ -20,7 +20,7 @@ use Rattle.trees.proofs.Readable.{Readable}
 use Rattle.trees.proofs.Legality.{legal_entry_lem, legal_empty, legal_root_lem}
 
 -- names have no zero byte
-name_word : (n : List ℕ) → every name_byte n ≡ true → All (λ b. 0 < b) n
+name_word : (n : List ℕ) → every name_byte n ≡ true → AllByRecursion (λ b. 0 < b) n
 name_word [] h = tt
 name_word (b ∷ n) h =
     let parts = and_parts (name_byte b) (every name_byte n) h in
@@ -39,8 +39,8 @@ module _ (m : BlockMap) (limit next : ℕ) where
     pub version : f.version < 2 ^ 32
     pub size : length f.bytes ≤ 66528
     pub fits : FileFits f w
-    pub blocks : All (InRange limit) w.blocks
-    pub indirect : All (InRange limit) w.indirect
+    pub blocks : AllByRecursion (InRange limit) w.blocks
+    pub indirect : AllByRecursion (InRange limit) w.indirect
     pub bytes : (j : ℕ) → j < length w.blocks → m (get_or w.blocks j 0) ≡ Ok (file_block f.qid (chunk 504 j (f.bytes ++ w.slack)))
     pub addresses : (j : ℕ) → j < length w.indirect → m (get_or w.indirect j 0) ≡ Ok (indirect_block f.qid (chunk 126 j (drop 6 w.blocks)))
 
@@ -49,7 +49,7 @@ module _ (m : BlockMap) (limit next : ℕ) where
     pub version : d.version < 2 ^ 32
     pub size : size c ≤ 42
     pub fits : DirFits w c
-    pub blocks : All (InRange limit) w.blocks
+    pub blocks : AllByRecursion (InRange limit) w.blocks
     pub entries : (j : ℕ) → j < length w.blocks → m (get_or w.blocks j 0) ≡ Ok (directory_block d.qid (chunk 7 j (entries c)))
 
   -- the same of a place, of places and all that is below them
@@ -74,11 +74,11 @@ module _ (m : BlockMap) (limit next : ℕ) where
   held_at (dir n d w c k) (suc i) h = held_at k i h.3
 
   -- from the blocks of places
-  kept_addresses : {X : Type 0} (make : List X → Content) (n : ℕ) (l : List ℕ) (xs : List X) → All (Kept m limit) (in_blocks make n l xs) → All (InRange limit) l
+  kept_addresses : {X : Type 0} (make : List X → Content) (n : ℕ) (l : List ℕ) (xs : List X) → AllByRecursion (Kept m limit) (in_blocks make n l xs) → AllByRecursion (InRange limit) l
   kept_addresses make n l xs h = All-from_get_or (InRange limit) l 0 (λ j lt. (in_blocks_at make n (Kept m limit) l xs h j lt).0)
 
   leaf_held : (l : Leaf Stored) → LeafFits l → TidyLeaf (map_leaf (λ w. tt) l) → LeafNumbered next (map_leaf {Y = Unit {0}} (λ w. tt) l) →
-      All (Kept m limit) (leaf_blocks l) → LeafHeld l
+      AllByRecursion (Kept m limit) (leaf_blocks l) → LeafHeld l
   leaf_held free fits tidy numbered kept = tt
   leaf_held (file n f w) fits tidy numbered kept =
       let own = in_blocks (file_content f.qid) 504 w.blocks (f.bytes ++ w.slack) in
@@ -99,7 +99,7 @@ module _ (m : BlockMap) (limit next : ℕ) where
       )
 
   dir_held : (d : Dir) (w : Stored) (c : Places Stored) → DirFits w c → size (map_places {Y = Unit {0}} (λ w. tt) c) ≤ 42 → d.qid < next → d.version < 2 ^ 32 →
-      All (Kept m limit) (own_blocks d w c) → DirHeld d w c
+      AllByRecursion (Kept m limit) (own_blocks d w c) → DirHeld d w c
   dir_held d w c fits few q v kept = record {
     qid = q;
     version = v;
@@ -110,7 +110,7 @@ module _ (m : BlockMap) (limit next : ℕ) where
   }
 
   row_held : (c : Places Stored) → Fits c → TidyBelow (map_places (λ w. tt) c) → Numbered next (map_places {Y = Unit {0}} (λ w. tt) c) →
-      All (All (Kept m limit)) (row_blocks c) → Held c
+      AllByRecursion (AllByRecursion (Kept m limit)) (row_blocks c) → Held c
   row_held end fits tidy numbered kept = tt
   row_held (leaf l k) fits tidy numbered kept = (leaf_held l fits.0 tidy.0 numbered.0 kept.0, row_held k fits.1 tidy.1 numbered.1 kept.1)
   row_held (dir n d w c k) fits tidy numbered kept =
@@ -133,7 +133,7 @@ module _ (m : BlockMap) (limit next : ℕ) where
 
 -- the entries of what is held have room in their bytes, and are legal
 module _ (m : BlockMap) (limit next : ℕ) (few : limit ≤ 65536) (bound : next < 2 ^ 32) where
-  dir_readable : (n : List ℕ) (d : Dir) (w : Stored) (c : Places Stored) → length n ≤ 27 → All (λ b. 0 < b) n → DirHeld m limit next d w c → Readable limit (dir_entry n d w)
+  dir_readable : (n : List ℕ) (d : Dir) (w : Stored) (c : Places Stored) → length n ≤ 27 → AllByRecursion (λ b. 0 < b) n → DirHeld m limit next d w c → Readable limit (dir_entry n d w)
   dir_readable n d w c short word h =
       let six : length w.blocks ≤ 6 = omega (arith, h.size, h.fits.blocks) in
       record {
@@ -188,7 +188,7 @@ module _ (m : BlockMap) (limit next : ℕ) (few : limit ≤ 65536) (bound : next
       legal_entry_lem limit (file_entry n f w) (file_readable n f w h.0 h.1) next h.0 (ap (λ b. b || false) (le-leb (length f.bytes) 66528 h.1.size)) h.1.qid
   place_legal (deep n d w c) h = legal_entry_lem limit (dir_entry n d w) (place_readable (deep n d w c) h) next h.0 (dir_sized m limit next d w c h.1) h.1.qid
 
-  pub entries_legal : (c : Places Stored) → Held m limit next c → All (λ e. legal_entry limit next (entry_bytes e) ≡ true) (entries c)
+  pub entries_legal : (c : Places Stored) → Held m limit next c → AllByRecursion (λ e. legal_entry limit next (entry_bytes e) ≡ true) (entries c)
   entries_legal end h = tt
   entries_legal (leaf l k) h = (place_legal (flat l) h.0, entries_legal k h.1)
   entries_legal (dir n d w c k) h = (place_legal (deep n d w c) (h.0, h.1, h.2), entries_legal k h.3)

@@ -1,6 +1,6 @@
 -- What a legal entry says, and that it is the encoding of what it decodes to.
 use Rattle.std.proofs.Common.{◌≡◌, ℕ, ◌%◌, ◌^◌, ◌<◌, ◌≤◌, min, true, ◌&&◌, eqb, ltb, leb, ◌⊎◌, List, length, drop, replicate, sym, refl, ap, ◌∙◌, inl, inr, ⊎_elim, arith}
-use Rattle.std.specs.List.{range_with_len, AllByRecursion as All}
+use Rattle.std.specs.List.{range_with_len, AllByRecursion}
 use Rattle.std.specs.Str.{bytes_eq}
 use Rattle.std.proofs.lemmas.Slice.Eq.{bytes_eq-Decides}
 use Rattle.std.proofs.lemmas.Bool.{and_parts, or_cases, eqb-true, leb-true, ltb-true}
@@ -93,7 +93,7 @@ module _ (limit next : ℕ) (e : List ℕ) (h : Node limit next e) where
   unfolding legal_addresses
   both = and_parts _ _ h.addresses
 
-  pub directs_within : All (InRange limit) (directs_of e)
+  pub directs_within : AllByRecursion (InRange limit) (directs_of e)
   directs_within = addresses_used limit (blocks_for (size_of e)) 6 (λ i. direct_of i e) both.0 (min 6 (blocks_for (size_of e))) (omega arith) (omega arith)
 
   pub indirect_within : 6 < blocks_for (size_of e) → InRange limit (indirect_of e)

@@ -1,6 +1,6 @@
 -- What is written passes the tests of blocks and entries.
 use Rattle.std.proofs.Common.{◌≡◌, ℕ, zero, suc, ◌+◌, ◌*◌, ◌^◌, ◌<◌, ◌≤◌, Bool, true, ◌&&◌, ltb, List, [], ◌∷◌, ◌++◌, map, length, get_or, take, drop, replicate, sym, refl, ap, ◌∙◌, subst, ⊎_elim, arith}
-use Rattle.std.specs.List.{range_with_len, flat_map, AllByRecursion as All}
+use Rattle.std.specs.List.{range_with_len, flat_map, AllByRecursion}
 use Rattle.std.specs.Str.{bytes_eq}
 use Rattle.std.proofs.ByRecursion.{All-get_or, All-map}
 use Rattle.std.proofs.lemmas.List.{get_or_past, take_at}
@@ -24,7 +24,7 @@ use Rattle.trees.specs.Lookups.{legal_ends, legal_directory, legal_indirect, leg
 use Rattle.trees.proofs.Readable.{Readable, address_small, read_mode, read_qid, read_size, read_direct, read_indirect, read_entries}
 
 module _ {X : Type 0} (f : X → Bool) where
-  every_all : (xs : List X) → All (λ x. f x ≡ true) xs → every f xs ≡ true
+  every_all : (xs : List X) → AllByRecursion (λ x. f x ≡ true) xs → every f xs ≡ true
   every_all [] h = refl
   every_all (x ∷ xs) h = and_from (f x) (every f xs) h.0 (every_all xs h.1)
 
@@ -67,10 +67,10 @@ module _ (limit : ℕ) where
       (λ (le : n ≤ i). ap (λ b. legal_address limit b a) (le-ltb i n le) ∙ eq-eqb a 0 (z le))
       (cases_lt i n)
 
-  legal_listed : (l : List ℕ) → All (InRange limit) l → (i n : ℕ) → (i < n → i < length l) → (n ≤ i → length l ≤ i) → legal_address limit (ltb i n) (get_or l i 0) ≡ true
+  legal_listed : (l : List ℕ) → AllByRecursion (InRange limit) l → (i n : ℕ) → (i < n → i < length l) → (n ≤ i → length l ≤ i) → legal_address limit (ltb i n) (get_or l i 0) ≡ true
   legal_listed l h i n below past = legal_in i n (get_or l i 0) (λ lt. All-get_or (InRange limit) l i 0 (below lt) h) (λ le. get_or_past l i 0 (past le))
 
-  pub legal_indirect_lem : (q n : ℕ) (l : List ℕ) → limit ≤ 65536 → All (InRange limit) l → length l ≡ n → n ≤ 126 → legal_indirect limit n (indirect_block q l) ≡ true
+  pub legal_indirect_lem : (q n : ℕ) (l : List ℕ) → limit ≤ 65536 → AllByRecursion (InRange limit) l → length l ≡ n → n ≤ 126 → legal_indirect limit n (indirect_block q l) ≡ true
   legal_indirect_lem q n l few h long short =
       every_counting _ 0 126 (λ j lt.
       ap (legal_address limit (ltb j n)) (indirect_address q l j (omega arith) (address_small limit few l h j)) ∙ legal_listed l h j n (λ below. omega arith) (λ past. omega arith))
@@ -153,6 +153,6 @@ module _ (limit next : ℕ) where
   unfolding legal_entry
   legal_empty = ap (legal_entry limit next) empty_bytes
 
-  pub legal_directory_lem : (q : ℕ) (es : List Entry) → length es ≡ 7 → All (λ e. legal_entry limit next (entry_bytes e) ≡ true) es → legal_directory limit next (directory_block q es) ≡ true
+  pub legal_directory_lem : (q : ℕ) (es : List Entry) → length es ≡ 7 → AllByRecursion (λ e. legal_entry limit next (entry_bytes e) ≡ true) es → legal_directory limit next (directory_block q es) ≡ true
   legal_directory_lem q es long h =
       ap (every (legal_entry limit next)) (read_entries q es long) ∙ every_all (legal_entry limit next) (map entry_bytes es) (All-map (λ b. legal_entry limit next b ≡ true) entry_bytes es h)

@@ -1,6 +1,6 @@
 -- Lists of blocks and of addresses: what holds of each, and how often an address is there.
 use Rattle.std.proofs.Common.{◌≡◌, ℕ, zero, suc, ◌+◌, ◌*◌, ◌<◌, ◌≤◌, cond, eqb, ◌≢◌, ◌⊎◌, List, [], ◌∷◌, ◌++◌, map, length, get_or, take, drop, sym, refl, ap, ◌∙◌, subst, inl, inr, ⊎_elim, mul-zero, mul-suc, arith, drop-drop}
-use Rattle.std.specs.List.{flat_map, AllByRecursion as All}
+use Rattle.std.specs.List.{flat_map, AllByRecursion}
 use Rattle.std.proofs.ByRecursion.{All-append, All-weaker}
 use Rattle.std.proofs.lemmas.Bool.{cases_eq, eq-eqb, ne_eqb}
 use Rattle.trees.specs.Stored.{Content, Block, in_blocks, interleaved, count, uses}
@@ -51,11 +51,11 @@ count_same (b ∷ l) (suc i) zero lt lt' h e = absurd (omega (arith, one_same b,
 count_same (b ∷ l) (suc i) (suc j) lt lt' h e = ap suc (count_same l i j (omega arith) (omega arith) (omega arith) e)
 
 -- what holds of each address in a list holds of one that is there, and the other way round
-pub all_counted : (P : ℕ → Type 0) (l : List ℕ) (a : ℕ) → All P l → 0 < count a l → P a
+pub all_counted : (P : ℕ → Type 0) (l : List ℕ) (a : ℕ) → AllByRecursion P l → 0 < count a l → P a
 all_counted P [] a h c = absurd (omega arith)
 all_counted P (b ∷ l) a h c = ⊎_elim (λ e. subst P (sym e) h.0) (λ ne. all_counted P l a h.1 (omega (arith, one_other a b ne))) (cases_eq a b)
 
-pub all_from_counted : (P : ℕ → Type 0) (l : List ℕ) → ((a : ℕ) → 0 < count a l → P a) → All P l
+pub all_from_counted : (P : ℕ → Type 0) (l : List ℕ) → ((a : ℕ) → 0 < count a l → P a) → AllByRecursion P l
 all_from_counted P [] h = tt
 all_from_counted P (b ∷ l) h = (h b (omega (arith, one_same b)), all_from_counted P l (λ a c. h a (omega arith)))
 
@@ -87,59 +87,59 @@ uses_interleaved a n (x ∷ xs) ls =
     omega (arith, uses_append a (join (take n ls)) (x ∷ interleaved n xs (drop n ls)), uses_join a (take n ls), uses_interleaved a n xs (drop n ls), uses_all_parts a n ls)
 
 module _ {X : Type 0} (P : X → Type 0) where
-  pub all_left : (xs ys : List X) → All P (xs ++ ys) → All P xs
+  pub all_left : (xs ys : List X) → AllByRecursion P (xs ++ ys) → AllByRecursion P xs
   all_left [] ys h = tt
   all_left (x ∷ xs) ys h = (h.0, all_left xs ys h.1)
 
-  pub all_right : (xs ys : List X) → All P (xs ++ ys) → All P ys
+  pub all_right : (xs ys : List X) → AllByRecursion P (xs ++ ys) → AllByRecursion P ys
   all_right [] ys h = h
   all_right (x ∷ xs) ys h = all_right xs ys h.1
 
-  pub all_join : (ls : List (List X)) → All (All P) ls → All P (join ls)
+  pub all_join : (ls : List (List X)) → AllByRecursion (AllByRecursion P) ls → AllByRecursion P (join ls)
   all_join [] h = tt
   all_join (l ∷ ls) h = All-append P l (join ls) h.0 (all_join ls h.1)
 
-  pub all_unjoin : (ls : List (List X)) → All P (join ls) → All (All P) ls
+  pub all_unjoin : (ls : List (List X)) → AllByRecursion P (join ls) → AllByRecursion (AllByRecursion P) ls
   all_unjoin [] h = tt
   all_unjoin (l ∷ ls) h = (all_left l (join ls) h, all_unjoin ls (all_right l (join ls) h))
 
-  pub all_parts : (n : ℕ) (xs : List X) → All P (take n xs) → All P (drop n xs) → All P xs
+  pub all_parts : (n : ℕ) (xs : List X) → AllByRecursion P (take n xs) → AllByRecursion P (drop n xs) → AllByRecursion P xs
   all_parts zero xs h k = k
   all_parts (suc n) [] h k = tt
   all_parts (suc n) (x ∷ xs) h k = (h.0, all_parts n xs h.1 k)
 
-  pub all_front : (n : ℕ) (xs : List X) → All P xs → All P (take n xs)
+  pub all_front : (n : ℕ) (xs : List X) → AllByRecursion P xs → AllByRecursion P (take n xs)
   all_front zero xs h = tt
   all_front (suc n) [] h = tt
   all_front (suc n) (x ∷ xs) h = (h.0, all_front n xs h.1)
 
-  pub all_back : (n : ℕ) (xs : List X) → All P xs → All P (drop n xs)
+  pub all_back : (n : ℕ) (xs : List X) → AllByRecursion P xs → AllByRecursion P (drop n xs)
   all_back zero xs h = h
   all_back (suc n) [] h = tt
   all_back (suc n) (x ∷ xs) h = all_back n xs h.1
 
 module _ {X : Type 0} (P : X → Type 0) where
-  pub all_interleaved : (n : ℕ) (xs : List X) (ls : List (List X)) → All P xs → All (All P) ls → All P (interleaved n xs ls)
+  pub all_interleaved : (n : ℕ) (xs : List X) (ls : List (List X)) → AllByRecursion P xs → AllByRecursion (AllByRecursion P) ls → AllByRecursion P (interleaved n xs ls)
   all_interleaved n [] ls h k = all_join P ls k
   all_interleaved n (x ∷ xs) ls h k =
       All-append P (join (take n ls)) (x ∷ interleaved n xs (drop n ls))
-      (all_join P (take n ls) (all_front (All P) n ls k))
-      (h.0, all_interleaved n xs (drop n ls) h.1 (all_back (All P) n ls k))
+      (all_join P (take n ls) (all_front (AllByRecursion P) n ls k))
+      (h.0, all_interleaved n xs (drop n ls) h.1 (all_back (AllByRecursion P) n ls k))
 
-  pub all_uninterleaved : (n : ℕ) (xs : List X) (ls : List (List X)) → All P (interleaved n xs ls) → All P xs × All (All P) ls
+  pub all_uninterleaved : (n : ℕ) (xs : List X) (ls : List (List X)) → AllByRecursion P (interleaved n xs ls) → AllByRecursion P xs × AllByRecursion (AllByRecursion P) ls
   all_uninterleaved n [] ls h = (tt, all_unjoin P ls h)
   all_uninterleaved n (x ∷ xs) ls h =
       let front = all_left P (join (take n ls)) (x ∷ interleaved n xs (drop n ls)) h in
       let back = all_right P (join (take n ls)) (x ∷ interleaved n xs (drop n ls)) h in
       let rest = all_uninterleaved n xs (drop n ls) back.1 in
-      ((back.0, rest.0), all_parts (All P) n ls (all_unjoin P (take n ls) front) rest.1)
+      ((back.0, rest.0), all_parts (AllByRecursion P) n ls (all_unjoin P (take n ls) front) rest.1)
 
 -- each block is there
-pub all_used : (bs : List Block) → All (λ b. 0 < uses b.address bs) bs
+pub all_used : (bs : List Block) → AllByRecursion (λ b. 0 < uses b.address bs) bs
 all_used [] = tt
 all_used (b ∷ bs) = (omega (arith, one_same b.address), All-weaker (λ c. 0 < uses c.address bs) (λ c. 0 < uses c.address (b ∷ bs)) (λ c h. omega arith) bs (all_used bs))
 
-pub all_both : {X : Type 0} (P Q : X → Type 0) (xs : List X) → All P xs → All Q xs → All (λ x. P x × Q x) xs
+pub all_both : {X : Type 0} (P Q : X → Type 0) (xs : List X) → AllByRecursion P xs → AllByRecursion Q xs → AllByRecursion (λ x. P x × Q x) xs
 all_both P Q [] h k = tt
 all_both P Q (x ∷ xs) h k = ((h.0, k.0), all_both P Q xs h.1 k.1)
 
@@ -162,14 +162,14 @@ module _ {X : Type 0} (make : List X → Content) (n : ℕ) where
   abbrev pub block_at : List ℕ → List X → ℕ → Block
   block_at l xs j = record { address = get_or l j 0; content = make (chunk n j xs) }
 
-  pub all_in_blocks : (P : Block → Type 0) (l : List ℕ) (xs : List X) → ((j : ℕ) → j < length l → P (block_at l xs j)) → All P (in_blocks make n l xs)
+  pub all_in_blocks : (P : Block → Type 0) (l : List ℕ) (xs : List X) → ((j : ℕ) → j < length l → P (block_at l xs j)) → AllByRecursion P (in_blocks make n l xs)
   all_in_blocks P [] xs h = tt
   all_in_blocks P (a ∷ l) xs h = (
     subst (λ c. P (record { address = a; content = make c })) (chunk_first n xs) (h 0 (omega arith)),
     all_in_blocks P l (drop n xs) (λ j lt. subst (λ c. P (record { address = get_or l j 0; content = make c })) (chunk_next n j xs) (h (suc j) (omega arith))),
   )
 
-  pub in_blocks_at : (P : Block → Type 0) (l : List ℕ) (xs : List X) → All P (in_blocks make n l xs) → (j : ℕ) → j < length l → P (block_at l xs j)
+  pub in_blocks_at : (P : Block → Type 0) (l : List ℕ) (xs : List X) → AllByRecursion P (in_blocks make n l xs) → (j : ℕ) → j < length l → P (block_at l xs j)
   in_blocks_at P [] xs h j lt = absurd (omega arith)
   in_blocks_at P (a ∷ l) xs h zero lt = subst (λ c. P (record { address = a; content = make c })) (sym (chunk_first n xs)) h.0
   in_blocks_at P (a ∷ l) xs h (suc j) lt = subst (λ c. P (record { address = get_or l j 0; content = make c })) (sym (chunk_next n j xs)) (in_blocks_at P l (drop n xs) h.1 j (omega arith))

@@ -1,7 +1,7 @@
 -- An accepted make: into an empty place of a directory, or into a directory that grows by a block.
 use Rattle.std.proofs.Common.{◌≡◌, ℕ, zero, suc, ◌+◌, ◌-◌, ◌*◌, ◌/◌, ◌<◌, ◌≤◌, Bool, true, false, cond, ltb, ◌≢◌, ◌⊎◌, List, [], ◌∷◌, ◌++◌, length, get_or, take, drop, Ok, sym, refl, ap, ◌∙◌, subst, inl, inr, ⊎_elim, arith, length-append}
 use lib.Seq.{take-append-le, drop-append-le}
-use Rattle.std.specs.List.{AllByRecursion as All}
+use Rattle.std.specs.List.{AllByRecursion}
 use Rattle.std.proofs.ByRecursion.{All-append, All-set}
 use Rattle.std.proofs.lemmas.List.{nil_from_length, append-nil, get_or_append_left, get_or-append_right, same_from_push, length-drop}
 use Rattle.std.proofs.lemmas.Bool.{cases_lt, ltb-true, ltb-false}
@@ -64,7 +64,7 @@ uses_added a end (suc k) = omega (arith, uses_added a end k)
 uses_added a (leaf l c) k = omega (arith, uses_added a c k)
 uses_added a (dir n d w e c) k = omega (arith, uses_added a c k)
 
-all_added : (P : List Block → Type 0) → P [] → (c : Places Stored) (k : ℕ) → All P (row_blocks c) → All P (row_blocks (append c (frees k)))
+all_added : (P : List Block → Type 0) → P [] → (c : Places Stored) (k : ℕ) → AllByRecursion P (row_blocks c) → AllByRecursion P (row_blocks (append c (frees k)))
 all_added P e end zero h = tt
 all_added P e end (suc k) h = (e, all_added P e end k h)
 all_added P e (leaf l c) k h = (h.0, all_added P e c k h.1)
@@ -89,8 +89,8 @@ module _ (m : BlockMap) (l : List ℕ) (k : List ℕ) (d : Dir) (w : Stored) (c 
   no_uses : (a : ℕ) → uses a (place_blocks x) ≡ 0
   no_uses a = ap (uses a) none
 
-  no_rewrite : All (Rewritten m l) (place_blocks x)
-  no_rewrite = subst (All (Rewritten m l)) (sym none) tt
+  no_rewrite : AllByRecursion (Rewritten m l) (place_blocks x)
+  no_rewrite = subst (AllByRecursion (Rewritten m l)) (sym none) tt
 
   -- into an empty place
   module _ (lt : first_free c < size c) where
@@ -101,7 +101,7 @@ module _ (m : BlockMap) (l : List ℕ) (k : List ℕ) (d : Dir) (w : Stored) (c 
     room_uses a = omega (arith, uses_deep a k d w (set_at c i x), uses_deep a k d w c, uses_set a c i x lt, no_uses a, ap (λ q. uses a (place_blocks q)) (free_at c lt))
 
     pub room_rewritten : 0 < count (home_of w i) l → ((a : ℕ) → count a w.blocks ≡ 0 → 0 < uses a (place_blocks (deep k d w c)) → count a l ≡ 0) →
-        All (Rewritten m l) (place_blocks (deep k d w (set_at c i x)))
+        AllByRecursion (Rewritten m l) (place_blocks (deep k d w (set_at c i x)))
     room_rewritten home aside =
         place_rewritten m l k d w c i x home
         (λ j jl ne. in_blocks_at (directory_content d.qid) 7 (Stands m) w.blocks (entries c) (own_stand m k d w c s).0 j jl)
@@ -152,10 +152,10 @@ module _ (m : BlockMap) (l : List ℕ) (k : List ℕ) (d : Dir) (w : Stored) (c 
         (in_blocks_at (directory_content d.qid) 7 (Stands m) w.blocks (entries c) (own_stand m k d w c s).0 j lt'))
 
     pub grown_rewritten : ((a : ℕ) → 0 < count a new → 0 < count a l) → ((a : ℕ) → 0 < uses a (place_blocks (deep k d w c)) → count a l ≡ 0) →
-        All (Rewritten m l) (place_blocks (deep k d w⁺ (set_at c⁺ j⁺ x)))
+        AllByRecursion (Rewritten m l) (place_blocks (deep k d w⁺ (set_at c⁺ j⁺ x)))
     grown_rewritten added aside =
         place_rewritten m l k d w⁺ c⁺ j⁺ x (added (home_of w⁺ j⁺) home_new) old_stand
-        (subst (All (All (Stands m))) (sym (row_set c⁺ j⁺ (flat free))) (All-set (All (Stands m)) (row_blocks c⁺) j⁺ [] tt (all_added (All (Stands m)) tt c 7 (own_stand m k d w c s).1)))
+        (subst (AllByRecursion (AllByRecursion (Stands m))) (sym (row_set c⁺ j⁺ (flat free))) (All-set (AllByRecursion (Stands m)) (row_blocks c⁺) j⁺ [] tt (all_added (AllByRecursion (Stands m)) tt c 7 (own_stand m k d w c s).1)))
         (λ a h. aside a (omega (arith, uses_deep a k d w c, uses_set a c⁺ j⁺ (flat free) within, uses_added a c 7)))
         no_rewrite
 
@@ -243,7 +243,7 @@ module _ (m : BlockMap) (limit : ℕ) (t : StoredTree) (r : Represents m limit t
           blocks = λ a. omega (arith, ap (λ q. uses a (place_blocks q)) is', room_uses m (hot_of (home_of w i ∷ []) new) k d w c here x empty lt a, counts [] new a, ap (count a) none);
           fits = subst PlaceFits (sym is') (record { blocks = size_set c i x ∙ here.fits.0.blocks; indirect = here.fits.0.indirect; slack = here.fits.0.slack }, fits_set c i x (new_fits t is_dir at_it.n) here.fits.1);
           own = λ a h. (omega (arith, counts [] new a, uses_deep a k d w c, count_one a w.blocks (i / 7) on), refl);
-          rewritten = subst (λ q. All (Rewritten m (hot_of (home_of w i ∷ []) new)) (place_blocks q)) (sym is')
+          rewritten = subst (λ q. AllByRecursion (Rewritten m (hot_of (home_of w i ∷ []) new)) (place_blocks q)) (sym is')
               (room_rewritten m (hot_of (home_of w i ∷ []) new) k d w c here x empty lt (omega (arith, counts (home_of w i ∷ []) new (home_of w i)))
               (λ a z h. omega (arith, counts (home_of w i ∷ []) new a, count_one a w.blocks (i / 7) on, ap (count a) none)));
         })
@@ -259,7 +259,7 @@ module _ (m : BlockMap) (limit : ℕ) (t : StoredTree) (r : Represents m limit t
           blocks = λ a. omega (arith, ap (λ q. uses a (place_blocks q)) is', grown_uses m (hot_of [] new) k d w c here x empty full new ok.many a, counts [] new a);
           fits = subst PlaceFits (sym is') (grown_fits m (hot_of [] new) k d w c here x empty full new ok.many (new_fits t is_dir at_it.n));
           own = λ a h. absurd (omega arith);
-          rewritten = subst (λ q. All (Rewritten m (hot_of [] new)) (place_blocks q)) (sym is')
+          rewritten = subst (λ q. AllByRecursion (Rewritten m (hot_of [] new)) (place_blocks q)) (sym is')
               (grown_rewritten m (hot_of [] new) k d w c here x empty full new ok.many (λ a h. omega (arith, counts [] new a))
               (λ a h. omega (arith, counts [] new a, ⊎_elim (λ z. z) (λ y. absurd (omega (arith, ok.unused a y, counts [] new a))) (zero_or (count a new)))));
         })

@@ -1,6 +1,6 @@
 -- A check of a directory that passes has met the blocks of the places that its blocks decode to.
 use Rattle.std.proofs.Common.{◌≡◌, ℕ, zero, suc, ◌+◌, ◌*◌, ◌≤◌, min, Bool, true, false, cond, not, ◌&&◌, eqb, List, [], ◌∷◌, ◌++◌, map, length, take, drop, Ok, sum_by, sym, refl, ap, ◌∙◌, subst, arith}
-use Rattle.std.specs.List.{flat_map, AllByRecursion as All}
+use Rattle.std.specs.List.{flat_map, AllByRecursion}
 use Rattle.std.specs.Str.{bytes_eq}
 use Rattle.std.proofs.lemmas.List.FromFn.{length-map-range_with_len}
 use Rattle.std.proofs.ByRecursion.{All-append}
@@ -50,7 +50,7 @@ module _ (m : BlockMap) (sub : List ℕ → Places Stored) (e : List ℕ) where
 
 -- a directory whose blocks are at the addresses l, and whose places are c
 pub record DirectoryPassed (m : BlockMap) (limit next depth owner : ℕ) (l : List ℕ) (c : Places Stored) (met met' : List ℕ) : Type 0 where
-  pub own : All (Kept m limit) (in_blocks (directory_content owner) 7 l (entries c))
+  pub own : AllByRecursion (Kept m limit) (in_blocks (directory_content owner) 7 l (entries c))
   pub places : Represented m limit next depth c
   pub here : TidyDir (plain_of c)
   pub many : size c ≡ 7 * length l
@@ -58,7 +58,7 @@ pub record DirectoryPassed (m : BlockMap) (limit next depth owner : ℕ) (l : Li
 
 -- a check of directories, of which `sub` gives the places
 abbrev pub Checked : BlockMap → ℕ → ℕ → ℕ → (ℕ → List ℕ → List ℕ → Judged (List ℕ)) → (List ℕ → Places Stored) → Type 0
-Checked m limit next depth test sub = (holder : ℕ) (e met met' : List ℕ) → All (InRange limit) (directs_of e) → test holder e met ≡ Ok met' →
+Checked m limit next depth test sub = (holder : ℕ) (e met met' : List ℕ) → AllByRecursion (InRange limit) (directs_of e) → test holder e met ≡ Ok met' →
     DirectoryPassed m limit next depth (qid_of e) (directs_of e) (sub (directs_of e)) met met'
 
 -- the entry of a directory, by any of its names
@@ -148,8 +148,8 @@ module _ (m : BlockMap) (holds : HoldsBytes m) (limit next depth : ℕ) (deeper 
   met_names met n = passing (bytes_eq n) met.names
 
   record PlacesPassed (es : List (List ℕ)) (met met' : Met) : Type 0 where
-    pub each : All (λ e. Represented m limit next depth (put (place e) end)) es
-    pub encode : All (λ e. entry_bytes (made e) ≡ e) es
+    pub each : AllByRecursion (λ e. Represented m limit next depth (put (place e) end)) es
+    pub encode : AllByRecursion (λ e. entry_bytes (made e) ≡ e) es
     pub addresses : Meets met.addresses (λ a. uses_in a es) met'.addresses
     pub names : Grown (met_names met) (λ n. named_in n es) (met_names met')
 
@@ -189,7 +189,7 @@ module _ (m : BlockMap) (holds : HoldsBytes m) (limit next depth : ℕ) (deeper 
             (grown_same names (λ n. ap (λ t. cond t 1 0) (named_by_entry m sub e n ne))),
       )
 
-  places_passed : (holder : ℕ) (es : List (List ℕ)) (met met' : Met) → All Bytes72 es → check_places m limit next deeper test holder es met ≡ Ok met' → PlacesPassed es met met'
+  places_passed : (holder : ℕ) (es : List (List ℕ)) (met met' : Met) → AllByRecursion Bytes72 es → check_places m limit next deeper test holder es met ≡ Ok met' → PlacesPassed es met met'
   places_passed holder [] met met' all ok = subst (PlacesPassed [] met) (ok_same met met' ok) (places_none met)
   places_passed holder (e ∷ es) met met' all ok =
       let legal = test_ok (legal_entry limit next e) _ holder met' ok in
@@ -215,7 +215,7 @@ module _ (m : BlockMap) (holds : HoldsBytes m) (limit next depth : ℕ) (deeper 
   abbrev entries_at : ℕ → List (List ℕ)
   entries_at a = entries_of (bytes_of (m a))
 
-  entries_back : (es : List (List ℕ)) → All (λ e. entry_bytes (made e) ≡ e) es → map entry_bytes (map made es) ≡ es
+  entries_back : (es : List (List ℕ)) → AllByRecursion (λ e. entry_bytes (made e) ≡ e) es → map entry_bytes (map made es) ≡ es
   entries_back [] h = refl
   entries_back (e ∷ es) h =
       let rest = entries_back es h.1 in
@@ -223,8 +223,8 @@ module _ (m : BlockMap) (holds : HoldsBytes m) (limit next depth : ℕ) (deeper 
       cc
 
   record BlocksPassed (owner : ℕ) (l : List ℕ) (met : Met) (met' : List ℕ) : Type 0 where
-    pub own : All (Kept m limit) (in_blocks (directory_content owner) 7 l (map made (flat_map entries_at l)))
-    pub each : All (λ e. Represented m limit next depth (put (place e) end)) (flat_map entries_at l)
+    pub own : AllByRecursion (Kept m limit) (in_blocks (directory_content owner) 7 l (map made (flat_map entries_at l)))
+    pub each : AllByRecursion (λ e. Represented m limit next depth (put (place e) end)) (flat_map entries_at l)
     pub many : length (flat_map entries_at l) ≡ 7 * length l
     pub addresses : Meets met.addresses (λ a. count a l + uses_in a (flat_map entries_at l)) met'
     pub names : ((n : List ℕ) → met_names met n ≤ 1) → (n : List ℕ) → met_names met n + named_in n (flat_map entries_at l) ≤ 1
@@ -239,7 +239,7 @@ module _ (m : BlockMap) (holds : HoldsBytes m) (limit next depth : ℕ) (deeper 
       seen.reads ∙ ap Ok (sym (ap (λ es. encoded (directory_content owner es)) (front_made made 7 (entries_at a) after seven)
       ∙ directory_back owner (bytes_of (m a)) (map made (entries_at a)) seen.long seen.back (entries_back (entries_at a) places.encode))) in
       record {
-        own = ((stands, within), subst (λ es. All (Kept m limit) (in_blocks (directory_content owner) 7 l es)) (sym (back_made made 7 (entries_at a) after seven)) rest.own);
+        own = ((stands, within), subst (λ es. AllByRecursion (Kept m limit) (in_blocks (directory_content owner) 7 l es)) (sym (back_made made 7 (entries_at a) after seven)) rest.own);
         each = All-append _ (entries_at a) after places.each rest.each;
         many = length-append (entries_at a) after ∙ omega (arith, seven, rest.many);
         addresses = grown_then first (grown_then {more = λ x. uses_in x (entries_at a) + (count x l + uses_in x after)} places.addresses rest.addresses (λ x. refl))
@@ -247,7 +247,7 @@ module _ (m : BlockMap) (holds : HoldsBytes m) (limit next depth : ℕ) (deeper 
         names = λ before n. omega (arith, places.names.counted n, rest.names (places.names.once before) n, sum_by-append (λ e. cond (has_name n (place e)) 1 0) (entries_at a) after);
       }
 
-  blocks_passed : (owner holder : ℕ) (l : List ℕ) (met : Met) (met' : List ℕ) → All (InRange limit) l →
+  blocks_passed : (owner holder : ℕ) (l : List ℕ) (met : Met) (met' : List ℕ) → AllByRecursion (InRange limit) l →
       check_blocks m limit next deeper test owner holder l met ≡ Ok met' → BlocksPassed owner l met met'
   blocks_passed owner holder [] met met' within ok = record {
     own = tt;
@@ -267,7 +267,7 @@ module _ (m : BlockMap) (holds : HoldsBytes m) (limit next depth : ℕ) (deeper 
       (blocks_passed owner holder l third.0 met' within.1 third.2)
 
   -- all the blocks of a directory
-  directory_passed : (owner holder : ℕ) (l met met' : List ℕ) → All (InRange limit) l → length l ≤ 6 →
+  directory_passed : (owner holder : ℕ) (l met met' : List ℕ) → AllByRecursion (InRange limit) l → length l ≤ 6 →
       check_blocks m limit next deeper test owner holder l (record { addresses = met; names = [] }) ≡ Ok met' →
       DirectoryPassed m limit next depth owner l (places_from m sub (flat_map entries_at l)) met met'
   directory_passed owner holder l met met' within short ok =
@@ -277,7 +277,7 @@ module _ (m : BlockMap) (holds : HoldsBytes m) (limit next depth : ℕ) (deeper 
       let many : size c ≡ 7 * length l = size_from m sub es ∙ p.many in
       let plain : size (plain_of c) ≡ size c = map_size (λ w. tt) c in
       record {
-        own = subst (λ xs. All (Kept m limit) (in_blocks (directory_content owner) 7 l xs)) (sym (entries_from m sub es)) p.own;
+        own = subst (λ xs. AllByRecursion (Kept m limit) (in_blocks (directory_content owner) 7 l xs)) (sym (entries_from m sub es)) p.own;
         places = represented_all m limit next depth sub es p.each;
         here = record {
           differ = λ n. omega (arith, named_plain n c, named_from m sub n es, p.names (λ x. omega arith) n);

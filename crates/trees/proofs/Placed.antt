@@ -1,7 +1,7 @@
 -- One place of a directory changes: which blocks that leaves as they were, and what they name.
 use Rattle.std.proofs.Common.{◌≡◌, ℕ, zero, suc, ◌+◌, ◌-◌, ◌*◌, ◌/◌, ◌<◌, ◌≤◌, Bool, true, false, cond, eqb, ◌≢◌, ◌⊎◌, List, [], ◌∷◌, ◌++◌, length, get_or, take, drop, set, sym, refl, ap, ◌∙◌, subst, inl, inr, ⊎_elim, arith, length-set, drop-set-lt}
 use lib.Seq.{drop-set-add, take-set-le}
-use Rattle.std.specs.List.{flat_map, AllByRecursion as All}
+use Rattle.std.specs.List.{flat_map, AllByRecursion}
 use Rattle.std.proofs.ByRecursion.{All-set, All-weaker}
 use Rattle.std.proofs.lemmas.List.{set-set}
 use Rattle.std.proofs.lemmas.Bool.{cases_eq, cases_lt}
@@ -63,13 +63,13 @@ row_pointers a (dir n d w c k) = omega (arith, row_pointers a k, entry_pointers_
 abbrev pub NamesWithin : (ℕ → ℕ) → Block → Type 0
 NamesWithin f b = (a : ℕ) → count a (pointers b.content) ≤ f a
 
-widen : (f g : ℕ → ℕ) (bs : List Block) → ((a : ℕ) → f a ≤ g a) → All (NamesWithin f) bs → All (NamesWithin g) bs
+widen : (f g : ℕ → ℕ) (bs : List Block) → ((a : ℕ) → f a ≤ g a) → AllByRecursion (NamesWithin f) bs → AllByRecursion (NamesWithin g) bs
 widen f g bs le h = All-weaker (NamesWithin f) (NamesWithin g) (λ b k a. omega (arith, k a, le a)) bs h
 
-widen_all : (f g : ℕ → ℕ) (ls : List (List Block)) → ((a : ℕ) → f a ≤ g a) → All (All (NamesWithin f)) ls → All (All (NamesWithin g)) ls
-widen_all f g ls le h = All-weaker (All (NamesWithin f)) (All (NamesWithin g)) (λ bs k. widen f g bs le k) ls h
+widen_all : (f g : ℕ → ℕ) (ls : List (List Block)) → ((a : ℕ) → f a ≤ g a) → AllByRecursion (AllByRecursion (NamesWithin f)) ls → AllByRecursion (AllByRecursion (NamesWithin g)) ls
+widen_all f g ls le h = All-weaker (AllByRecursion (NamesWithin f)) (AllByRecursion (NamesWithin g)) (λ bs k. widen f g bs le k) ls h
 
-leaf_names : (l : Leaf Stored) → All (NamesWithin (λ a. uses a (leaf_blocks l))) (leaf_blocks l)
+leaf_names : (l : Leaf Stored) → AllByRecursion (NamesWithin (λ a. uses a (leaf_blocks l))) (leaf_blocks l)
 leaf_names free = tt
 leaf_names (file n f w) =
     Rattle.std.proofs.lemmas.List.Elements.All-append (NamesWithin (λ a. uses a (leaf_blocks (file n f w)))) (in_blocks (file_content f.qid) 504 w.blocks (f.bytes ++ w.slack)) (in_blocks (indirect_content f.qid) 126 w.indirect (drop 6 w.blocks))
@@ -77,17 +77,17 @@ leaf_names (file n f w) =
     (all_in_blocks (indirect_content f.qid) 126 (NamesWithin (λ a. uses a (leaf_blocks (file n f w)))) w.indirect (drop 6 w.blocks) (λ j lt a.
     omega (arith, uses_file a n f w, count_take a 126 (drop (126 * j) (drop 6 w.blocks)), count_drop a (126 * j) (drop 6 w.blocks), count_drop a 6 w.blocks)))
 
-own_names : (d : Dir) (w : Stored) (c : Places Stored) → All (NamesWithin (λ a. uses_all a (row_blocks c))) (own_blocks d w c)
+own_names : (d : Dir) (w : Stored) (c : Places Stored) → AllByRecursion (NamesWithin (λ a. uses_all a (row_blocks c))) (own_blocks d w c)
 own_names d w c =
     all_in_blocks (directory_content d.qid) 7 (NamesWithin (λ a. uses_all a (row_blocks c))) w.blocks (entries c) (λ j lt a. omega (arith, chunk_pointers a 7 j (entries c), row_pointers a c))
 
-deep_names : (n : List ℕ) (d : Dir) (w : Stored) (c : Places Stored) → All (All (NamesWithin (λ a. uses_all a (row_blocks c)))) (row_blocks c) →
-    All (NamesWithin (λ a. uses a (place_blocks (deep n d w c)))) (place_blocks (deep n d w c))
+deep_names : (n : List ℕ) (d : Dir) (w : Stored) (c : Places Stored) → AllByRecursion (AllByRecursion (NamesWithin (λ a. uses_all a (row_blocks c)))) (row_blocks c) →
+    AllByRecursion (NamesWithin (λ a. uses a (place_blocks (deep n d w c)))) (place_blocks (deep n d w c))
 deep_names n d w c h =
     widen (λ a. uses_all a (row_blocks c)) (λ a. uses a (place_blocks (deep n d w c))) (place_blocks (deep n d w c)) (λ a. omega (arith, uses_deep a n d w c))
     (all_interleaved (NamesWithin (λ a. uses_all a (row_blocks c))) 7 (own_blocks d w c) (row_blocks c) (own_names d w c) h)
 
-pub row_names : (c : Places Stored) → All (All (NamesWithin (λ a. uses_all a (row_blocks c)))) (row_blocks c)
+pub row_names : (c : Places Stored) → AllByRecursion (AllByRecursion (NamesWithin (λ a. uses_all a (row_blocks c)))) (row_blocks c)
 row_names end = tt
 row_names (leaf l k) = (
   widen (λ a. uses a (leaf_blocks l)) (λ a. uses_all a (row_blocks (leaf l k))) (leaf_blocks l) (λ a. omega arith) (leaf_names l),
@@ -107,11 +107,11 @@ Rewritten m l b = (0 < count b.address l) ⊎ Untouched m l b
 
 module _ (m : BlockMap) (l : List ℕ) where
   -- blocks of places that are not touched
-  pub rows_untouched : (c : Places Stored) → ((a : ℕ) → 0 < uses_all a (row_blocks c) → count a l ≡ 0) → All (All (Stands m)) (row_blocks c) → All (All (Rewritten m l)) (row_blocks c)
+  pub rows_untouched : (c : Places Stored) → ((a : ℕ) → 0 < uses_all a (row_blocks c) → count a l ≡ 0) → AllByRecursion (AllByRecursion (Stands m)) (row_blocks c) → AllByRecursion (AllByRecursion (Rewritten m l)) (row_blocks c)
   rows_untouched c aside h =
-      All-weaker (λ bs. All (Stands m) bs × All (NamesWithin (λ a. uses_all a (row_blocks c))) bs) (All (Rewritten m l))
+      All-weaker (λ bs. AllByRecursion (Stands m) bs × AllByRecursion (NamesWithin (λ a. uses_all a (row_blocks c))) bs) (AllByRecursion (Rewritten m l))
       (λ bs k. All-weaker (λ b. Stands m b × NamesWithin (λ a. uses_all a (row_blocks c)) b) (Rewritten m l) (λ b s. inr (s.0, λ a p. aside a (omega (arith, s.1 a)))) bs (all_both (Stands m) (NamesWithin (λ a. uses_all a (row_blocks c))) bs k.0 k.1))
-      (row_blocks c) (all_both (All (Stands m)) (All (NamesWithin (λ a. uses_all a (row_blocks c)))) (row_blocks c) h (row_names c))
+      (row_blocks c) (all_both (AllByRecursion (Stands m)) (AllByRecursion (NamesWithin (λ a. uses_all a (row_blocks c)))) (row_blocks c) h (row_names c))
 
   -- Place i of a directory becomes p. Its block is rewritten; the directory's other blocks and its other places stay.
   module _ (n : List ℕ) (d : Dir) (w : Stored) (c : Places Stored) (i : ℕ) (p : Place Stored) where
@@ -124,8 +124,8 @@ module _ (m : BlockMap) (l : List ℕ) where
 
     pub place_rewritten : 0 < count (home_of w i) l →
         ((j : ℕ) → j < length w.blocks → j ≢ i / 7 → Stands m (block_at (directory_content d.qid) 7 w.blocks (entries c) j)) →
-        All (All (Stands m)) (row_blocks rest) → ((a : ℕ) → 0 < uses_all a (row_blocks rest) → count a l ≡ 0) →
-        All (Rewritten m l) (place_blocks p) → All (Rewritten m l) (place_blocks (deep n d w (set_at c i p)))
+        AllByRecursion (AllByRecursion (Stands m)) (row_blocks rest) → ((a : ℕ) → 0 < uses_all a (row_blocks rest) → count a l ≡ 0) →
+        AllByRecursion (Rewritten m l) (place_blocks p) → AllByRecursion (Rewritten m l) (place_blocks (deep n d w (set_at c i p)))
     place_rewritten hot own rows aside new =
         all_interleaved (Rewritten m l) 7 (own_blocks d w (set_at c i p)) (row_blocks (set_at c i p))
         (all_in_blocks (directory_content d.qid) 7 (Rewritten m l) w.blocks (entries (set_at c i p)) (λ j lt.
@@ -140,5 +140,5 @@ module _ (m : BlockMap) (l : List ℕ) where
           λ a q. aside a (omega (arith, ap (λ es. count a (all_pointers es)) bare, chunk_pointers a 7 j (entries rest), row_pointers a rest)),
         ))
         (cases_eq j (i / 7))))
-        (subst (All (All (Rewritten m l))) (sym (row_set c i p ∙ sym (ap (λ r. set r i (place_blocks p)) (row_set c i (flat free)) ∙ set-set (row_blocks c) i (place_blocks (flat free)) (place_blocks p))))
-        (All-set (All (Rewritten m l)) (row_blocks rest) i (place_blocks p) new (rows_untouched rest aside rows)))
+        (subst (AllByRecursion (AllByRecursion (Rewritten m l))) (sym (row_set c i p ∙ sym (ap (λ r. set r i (place_blocks p)) (row_set c i (flat free)) ∙ set-set (row_blocks c) i (place_blocks (flat free)) (place_blocks p))))
+        (All-set (AllByRecursion (Rewritten m l)) (row_blocks rest) i (place_blocks p) new (rows_untouched rest aside rows)))

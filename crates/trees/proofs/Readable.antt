@@ -1,6 +1,6 @@
 -- What is written reads back: entries, and the blocks of files and directories.
 use Rattle.std.proofs.Common.{◌≡◌, ℕ, ◌^◌, ◌<◌, ◌≤◌, min, List, map, length, get_or, sym, ap, ◌∙◌, ⊎_elim, arith}
-use Rattle.std.specs.List.{range_with_len, AllByRecursion as All}
+use Rattle.std.specs.List.{range_with_len, AllByRecursion}
 use Rattle.std.proofs.lemmas.List.FromFn.{fill_by_all}
 use Rattle.std.proofs.ByRecursion.{All-get_or}
 use Rattle.std.proofs.lemmas.List.{length-map, get_or-map, get_or_past}
@@ -19,18 +19,18 @@ use Rattle.trees.specs.Decoded.{entries_of, directs_of, addresses_of}
 pub record Readable (limit : ℕ) (e : Entry) : Type 0 where
   pub few : limit ≤ 65536
   pub short : length e.name ≤ 27
-  pub word : All (λ b. 0 < b) e.name
+  pub word : AllByRecursion (λ b. 0 < b) e.name
   pub mode : e.mode < 2 ^ 16
   pub qid : e.qid < 2 ^ 32
   pub version : e.version < 2 ^ 32
   pub size : e.size < 2 ^ 32
   pub many : length e.direct ≡ min 6 (blocks_for e.size)
-  pub direct : All (InRange limit) e.direct
+  pub direct : AllByRecursion (InRange limit) e.direct
   pub indirect : (6 < blocks_for e.size → InRange limit e.indirect) × (blocks_for e.size ≤ 6 → e.indirect ≡ 0)
 
 module _ (limit : ℕ) (few : limit ≤ 65536) where
   -- an address of a list, or 0 past its end, has 32 bits
-  pub address_small : (l : List ℕ) → All (InRange limit) l → (i : ℕ) → get_or l i 0 < 2 ^ 32
+  pub address_small : (l : List ℕ) → AllByRecursion (InRange limit) l → (i : ℕ) → get_or l i 0 < 2 ^ 32
   address_small l h i =
       ⊎_elim (λ (lt : i < length l). let r = All-get_or (InRange limit) l i 0 lt h in omega arith) (λ (le : length l ≤ i). omega (arith, get_or_past l i 0 le)) (cases_lt i (length l))
 
@@ -80,7 +80,7 @@ read_entries q es long =
     by_places (λ k. entry_at k (directory_block q es)) (map entry_bytes es) (entry_bytes empty_entry) 7 (length-map es entry_bytes ∙ long)
     (λ k lt. directory_entry q es k (omega arith) ∙ sym (get_or-map entry_bytes es k empty_entry (entry_bytes empty_entry) (omega arith)))
 
-pub read_addresses : (limit q n : ℕ) (l : List ℕ) → limit ≤ 65536 → All (InRange limit) l → length l ≡ n → n ≤ 126 → addresses_of n (indirect_block q l) ≡ l
+pub read_addresses : (limit q n : ℕ) (l : List ℕ) → limit ≤ 65536 → AllByRecursion (InRange limit) l → length l ≡ n → n ≤ 126 → addresses_of n (indirect_block q l) ≡ l
 read_addresses limit q n l few h long short =
     by_places (λ j. address_of j (indirect_block q l)) l 0 n long (λ j lt. indirect_address q l j (omega arith) (address_small limit few l h j))
 

@@ -1,6 +1,6 @@
 -- What is legal in blocks is the encoding of what it reads as.
 use Rattle.std.proofs.Common.{◌≡◌, ℕ, zero, suc, ◌+◌, ◌*◌, ◌/◌, ◌%◌, ◌^◌, ◌<◌, ◌≤◌, Bool, true, ◌&&◌, eqb, ltb, leb, List, [], ◌∷◌, ◌++◌, map, length, get_or, take, drop, replicate, sym, refl, ap, ◌∙◌, subst, ⊎_elim, mul-zero, arith}
-use Rattle.std.specs.List.{range_with_len, flat_map, AllByRecursion as All}
+use Rattle.std.specs.List.{range_with_len, flat_map, AllByRecursion}
 use Rattle.std.proofs.lemmas.List.FromFn.{length-map-range_with_len, get_or-map-range_with_len}
 use Rattle.std.proofs.ByRecursion.{All-take, All-drop}
 use Rattle.std.proofs.lemmas.List.{length-take, length-drop, length-map, take-append-drop, take_all, drop_all, drop-drop, drop-replicate, get_or_past, ext_get_or}
@@ -17,7 +17,7 @@ use Rattle.trees.specs.Decoded.{entries_of, addresses_of}
 use Rattle.trees.specs.Lookups.{legal_ends, legal_indirect}
 
 abbrev pub Bytes : List ℕ → Type 0
-Bytes bs = All (λ x. x < 256) bs
+Bytes bs = AllByRecursion (λ x. x < 256) bs
 
 abbrev pub Bytes72 : List ℕ → Type 0
 Bytes72 e = (length e ≡ 72) × Bytes e
@@ -162,7 +162,7 @@ every_counting f a (suc n) i h low high =
     ⊎_elim (λ (e : a ≡ i). subst (λ x. f x ≡ true) e both.0)
     (λ (ne : a ≡ i → ⊥). every_counting f (a + 1) n i both.1 (omega arith) (omega arith)) (cases_eq a i)
 
-all_counting : {X : Type 0} (P : X → Type 0) (f : ℕ → X) (a n : ℕ) → ((j : ℕ) → a ≤ j → j < a + n → P (f j)) → All P (map f (range_with_len a n))
+all_counting : {X : Type 0} (P : X → Type 0) (f : ℕ → X) (a n : ℕ) → ((j : ℕ) → a ≤ j → j < a + n → P (f j)) → AllByRecursion P (map f (range_with_len a n))
 all_counting P f a zero h = tt
 all_counting P f a (suc n) h = (h a (omega arith) (omega arith), all_counting P f (a + 1) n (λ j low high. h j (omega arith) (omega arith)))
 
@@ -176,7 +176,7 @@ module _ (limit i n a : ℕ) (legal : legal_address limit (ltb i n) a ≡ true) 
   address_unused le = eqb-true a 0 (subst (λ t. legal_address limit t a ≡ true) (le-ltb i n le) legal)
 
 module _ (limit n k : ℕ) (f : ℕ → ℕ) (legal : every (λ j. legal_address limit (ltb j n) (f j)) (range_with_len 0 k) ≡ true) where
-  pub addresses_used : (l : ℕ) → l ≤ n → l ≤ k → All (InRange limit) (map f (range_with_len 0 l))
+  pub addresses_used : (l : ℕ) → l ≤ n → l ≤ k → AllByRecursion (InRange limit) (map f (range_with_len 0 l))
   addresses_used l le le' =
       all_counting (InRange limit) f 0 l (λ j low high. address_used limit j n (f j) (every_counting (λ j. legal_address limit (ltb j n) (f j)) 0 k j legal low (omega arith)) (omega arith))
 
@@ -199,7 +199,7 @@ joined_map f (x ∷ xs) = ap (λ l. f x ++ l) (joined_map f xs)
 entry_part : (k : ℕ) (b : List ℕ) → length b ≡ 512 → k < 7 → entry_at k b ≡ bytes_at (72 * k) 72 (body_of b)
 entry_part k b long lt = fit_whole 72 0 (bytes_at (72 * k) 72 (body_of b)) (length_part (72 * k) 72 (body_of b) (omega (arith, length_part 0 504 b (omega arith))))
 
-pub entries_bytes : (b : List ℕ) → length b ≡ 512 → Bytes b → All Bytes72 (entries_of b)
+pub entries_bytes : (b : List ℕ) → length b ≡ 512 → Bytes b → AllByRecursion Bytes72 (entries_of b)
 entries_bytes b long h = all_counting Bytes72 (λ k. entry_at k b) 0 7 (λ k low high. (
   length_fit 72 0 (bytes_at (72 * k) 72 (body_of b)),
   subst Bytes (sym (entry_part k b long high)) (bytes_part (72 * k) 72 (body_of b) (bytes_part 0 504 b h)),

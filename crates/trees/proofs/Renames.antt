@@ -2,7 +2,7 @@
 use Rattle.std.proofs.Common.{◌≡◌, ℕ, suc, ◌*◌, ◌<◌, ◌≤◌, Bool, true, false, cond, eqb, List, [], ◌∷◌, ◌++◌, map, length, get_or, take, drop, sym, refl, ap, ◌∙◌, subst, ap₂, ⊎_elim, map-id, arith}
 use mathlib.Core.List.{map-append}
 use lib.ListN.{length-map}
-use Rattle.std.specs.List.{flat_map, AllByRecursion as All}
+use Rattle.std.specs.List.{flat_map, AllByRecursion}
 use Rattle.std.proofs.lemmas.List.{take-map, drop-map}
 use Rattle.std.proofs.ByRecursion.{All-weaker, All-map}
 use Rattle.std.proofs.lemmas.Bool.{cases_eq, ne_eqb, eqb-true}
@@ -27,13 +27,13 @@ module _ {X Y : Type 0} (f : X → Y) where
       ∙ sym (map-append f (join (take n ls)) (x ∷ interleaved n xs (drop n ls)))
 
 -- what holds of the blocks' addresses holds of each address given
-blocks_addresses : {X : Type 0} (P : ℕ → Type 0) (make : List X → Content) (n : ℕ) (l : List ℕ) (xs : List X) → All (λ b. P b.address) (in_blocks make n l xs) → All P l
+blocks_addresses : {X : Type 0} (P : ℕ → Type 0) (make : List X → Content) (n : ℕ) (l : List ℕ) (xs : List X) → AllByRecursion (λ b. P b.address) (in_blocks make n l xs) → AllByRecursion P l
 blocks_addresses P make n [] xs h = tt
 blocks_addresses P make n (a ∷ l) xs h = (h.0, blocks_addresses P make n l (drop n xs) h.1)
 
 -- no block is at address 0, which stands for none
 abbrev Placed : List Block → Type 0
-Placed bs = All (λ b. 0 < b.address) bs
+Placed bs = AllByRecursion (λ b. 0 < b.address) bs
 
 module _ (g : ℕ → ℕ) where
   renamed_in_blocks : {X : Type 0} (make : List X → Content) (f : X → X) → ((xs : List X) → make (map f xs) ≡ renamed_content g (make xs)) →
@@ -44,12 +44,12 @@ module _ (g : ℕ → ℕ) where
       (ap make (take-map f n xs) ∙ h (take n xs))
       (ap (in_blocks make n (map g l)) (drop-map f n xs) ∙ renamed_in_blocks make f h n l (drop n xs))
 
-  first_address : (l : List ℕ) → All (λ a. 0 < a) l → get_or (map g l) 0 0 ≡ cond (eqb (get_or l 0 0) 0) 0 (g (get_or l 0 0))
+  first_address : (l : List ℕ) → AllByRecursion (λ a. 0 < a) l → get_or (map g l) 0 0 ≡ cond (eqb (get_or l 0 0) 0) 0 (g (get_or l 0 0))
   first_address [] h = refl
   first_address (a ∷ l) h = ap (λ b. cond b 0 (g a)) (sym (ne_eqb a 0 (λ e. omega (arith, h.0))))
 
   -- what a directory says of its places
-  renamed_file : (n : List ℕ) (f : File) (w : Stored) → All (λ a. 0 < a) w.indirect → file_entry n f (renamed_stored g w) ≡ renamed_entry g (file_entry n f w)
+  renamed_file : (n : List ℕ) (f : File) (w : Stored) → AllByRecursion (λ a. 0 < a) w.indirect → file_entry n f (renamed_stored g w) ≡ renamed_entry g (file_entry n f w)
   renamed_file n f w h =
       ap₂ (λ l a. record { name = n; mode = (file_entry n f w).mode; qid = f.qid; version = f.version; size = length f.bytes; direct = l; indirect = a })
       (take-map g 6 w.blocks) (first_address w.indirect h)
@@ -66,7 +66,7 @@ module _ (g : ℕ → ℕ) where
       ap (λ k. record { name = n; mode = (dir_entry n d w).mode; qid = d.qid; version = d.version; size = 504 * k; direct = map g w.blocks; indirect = 0 })
       (length-map w.blocks g)
 
-  renamed_entries : (c : Places Stored) → All Placed (row_blocks c) → entries (map_places (renamed_stored g) c) ≡ map (renamed_entry g) (entries c)
+  renamed_entries : (c : Places Stored) → AllByRecursion Placed (row_blocks c) → entries (map_places (renamed_stored g) c) ≡ map (renamed_entry g) (entries c)
   renamed_entries end h = refl
   renamed_entries (leaf l k) h = ap₂ (λ e es. e ∷ es) (renamed_leaf_entry l h.0) (renamed_entries k h.1)
   renamed_entries (dir n d w c k) h = ap₂ (λ e es. e ∷ es) (renamed_dir n d w) (renamed_entries k h.1)
@@ -82,7 +82,7 @@ module _ (g : ℕ → ℕ) where
       ∙ renamed_in_blocks (indirect_content f.qid) g (λ xs. refl) 126 w.indirect (drop 6 w.blocks))
       ∙ sym (map-append (renamed_block g) (in_blocks (file_content f.qid) 504 w.blocks (f.bytes ++ w.slack)) (in_blocks (indirect_content f.qid) 126 w.indirect (drop 6 w.blocks)))
 
-  renamed_deep : (n : List ℕ) (d : Dir) (w : Stored) (c : Places Stored) → All Placed (row_blocks c) → row_blocks (map_places (renamed_stored g) c) ≡ map (map (renamed_block g)) (row_blocks c) →
+  renamed_deep : (n : List ℕ) (d : Dir) (w : Stored) (c : Places Stored) → AllByRecursion Placed (row_blocks c) → row_blocks (map_places (renamed_stored g) c) ≡ map (map (renamed_block g)) (row_blocks c) →
       place_blocks (map_place (renamed_stored g) (deep n d w c)) ≡ map (renamed_block g) (place_blocks (deep n d w c))
   renamed_deep n d w c h rows =
       ap₂ (interleaved 7)
@@ -91,10 +91,10 @@ module _ (g : ℕ → ℕ) where
       rows
       ∙ map_interleaved (renamed_block g) 7 (own_blocks d w c) (row_blocks c)
 
-  placed_rows : (d : Dir) (w : Stored) (c : Places Stored) → Placed (interleaved 7 (own_blocks d w c) (row_blocks c)) → All Placed (row_blocks c)
+  placed_rows : (d : Dir) (w : Stored) (c : Places Stored) → Placed (interleaved 7 (own_blocks d w c) (row_blocks c)) → AllByRecursion Placed (row_blocks c)
   placed_rows d w c h = (all_uninterleaved (λ b. 0 < b.address) 7 (own_blocks d w c) (row_blocks c) h).1
 
-  renamed_rows : (c : Places Stored) → All Placed (row_blocks c) → row_blocks (map_places (renamed_stored g) c) ≡ map (map (renamed_block g)) (row_blocks c)
+  renamed_rows : (c : Places Stored) → AllByRecursion Placed (row_blocks c) → row_blocks (map_places (renamed_stored g) c) ≡ map (map (renamed_block g)) (row_blocks c)
   renamed_rows end h = refl
   renamed_rows (leaf l k) h = ap₂ (λ r rs. r ∷ rs) (renamed_leaf l) (renamed_rows k h.1)
   renamed_rows (dir n d w c k) h =
@@ -187,30 +187,30 @@ module _ (g : ℕ → ℕ) where
 
 -- the content of a block that names no renamed block
 module _ (g : ℕ → ℕ) where
-  map_kept : (l : List ℕ) → All (λ a. g a ≡ a) l → map g l ≡ l
+  map_kept : (l : List ℕ) → AllByRecursion (λ a. g a ≡ a) l → map g l ≡ l
   map_kept [] h = refl
   map_kept (a ∷ l) h = ap₂ (λ b r. b ∷ r) h.0 (map_kept l h.1)
 
-  indirect_kept : (a : ℕ) → All (λ a. g a ≡ a) (cond (eqb a 0) [] (a ∷ [])) → cond (eqb a 0) 0 (g a) ≡ a
+  indirect_kept : (a : ℕ) → AllByRecursion (λ a. g a ≡ a) (cond (eqb a 0) [] (a ∷ [])) → cond (eqb a 0) 0 (g a) ≡ a
   indirect_kept a = by (eqb a 0) refl
     where
-      by : (b : Bool) → eqb a 0 ≡ b → All (λ a. g a ≡ a) (cond b [] (a ∷ [])) → cond b 0 (g a) ≡ a
+      by : (b : Bool) → eqb a 0 ≡ b → AllByRecursion (λ a. g a ≡ a) (cond b [] (a ∷ [])) → cond b 0 (g a) ≡ a
       by true e h = sym (eqb-true a 0 e)
       by false e h = h.0
 
-  entry_kept : (e : Entry) → All (λ a. g a ≡ a) (entry_pointers e) → renamed_entry g e ≡ e
+  entry_kept : (e : Entry) → AllByRecursion (λ a. g a ≡ a) (entry_pointers e) → renamed_entry g e ≡ e
   entry_kept e h =
       let rest = cond (eqb e.indirect 0) [] (e.indirect ∷ []) in
       ap₂ (λ l a. record { name = e.name; mode = e.mode; qid = e.qid; version = e.version; size = e.size; direct = l; indirect = a })
       (map_kept e.direct (all_left (λ a. g a ≡ a) e.direct rest h)) (indirect_kept e.indirect (all_right (λ a. g a ≡ a) e.direct rest h))
 
-  entries_kept : (es : List Entry) → All (λ a. g a ≡ a) (flat_map entry_pointers es) → map (renamed_entry g) es ≡ es
+  entries_kept : (es : List Entry) → AllByRecursion (λ a. g a ≡ a) (flat_map entry_pointers es) → map (renamed_entry g) es ≡ es
   entries_kept [] h = refl
   entries_kept (e ∷ es) h =
       ap₂ (λ x r. x ∷ r) (entry_kept e (all_left (λ a. g a ≡ a) (entry_pointers e) (flat_map entry_pointers es) h))
       (entries_kept es (all_right (λ a. g a ≡ a) (entry_pointers e) (flat_map entry_pointers es) h))
 
-  content_kept : (x : Content) → All (λ a. g a ≡ a) (pointers x) → renamed_content g x ≡ x
+  content_kept : (x : Content) → AllByRecursion (λ a. g a ≡ a) (pointers x) → renamed_content g x ≡ x
   content_kept (file_content owner bytes) h = refl
   content_kept (indirect_content owner l) h = ap (indirect_content owner) (map_kept l h)
   content_kept (directory_content owner es) h = ap (directory_content owner) (entries_kept es h)
@@ -224,11 +224,11 @@ renames = record {
         few = r.few;
         formed = subst WellFormed (sym (erase_renamed g t)) r.formed;
         fits = renamed_place_fits g (whole t) r.fits;
-        within = subst (All (λ b. InRange limit b.address)) (sym same)
+        within = subst (AllByRecursion (λ b. InRange limit b.address)) (sym same)
             (All-map (λ b. InRange limit b.address) (renamed_block g) (blocks_of t)
             (All-weaker (λ b. 0 < uses b.address (blocks_of t)) (λ b. InRange limit (g b.address)) (λ b h. within b.address h) (blocks_of t) (all_used (blocks_of t))));
         once = λ a. subst (λ bs. uses a bs ≤ 1) (sym same) (renamed_once g (blocks_of t) apart r.once a);
-        stand = subst (All (Stands m')) (sym same) stand;
+        stand = subst (AllByRecursion (Stands m')) (sym same) stand;
       };
   plain = erase_renamed;
   kept = content_kept;

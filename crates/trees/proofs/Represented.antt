@@ -1,6 +1,6 @@
 -- What a map that represents a tree says of some places of a directory, and of one place that was checked.
 use Rattle.std.proofs.Common.{◌≡◌, ℕ, suc, ◌+◌, ◌≤◌, cond, List, [], ◌∷◌, map, length, sum_by, sym, refl, ap, ◌∙◌, arith}
-use Rattle.std.specs.List.{AllByRecursion as All}
+use Rattle.std.specs.List.{AllByRecursion}
 use Rattle.std.specs.Str.{bytes_eq}
 use Rattle.std.proofs.lemmas.List.Sums.{sum_by-cons}
 use Rattle.plain.specs.Trees.{free, file, Places, end, leaf, dir, Place, flat, deep, put, size, has_name, named, Plain}
@@ -17,7 +17,7 @@ abbrev pub plain_of : Places Stored → Plain
 plain_of c = map_places (λ w. tt) c
 
 pub record Represented (m : BlockMap) (limit next depth : ℕ) (c : Places Stored) : Type 0 where
-  pub blocks : All (All (Kept m limit)) (row_blocks c)
+  pub blocks : AllByRecursion (AllByRecursion (Kept m limit)) (row_blocks c)
   pub fits : Fits c
   pub tidy : TidyBelow (plain_of c)
   pub numbered : Numbered next (plain_of c)
@@ -47,7 +47,7 @@ module _ (m : BlockMap) (limit next depth : ℕ) where
   }
 
   -- the places that entries decode to
-  pub represented_all : (sub : List ℕ → Places Stored) (es : List (List ℕ)) → All (λ e. Represented m limit next depth (put (place_from m sub e) end)) es →
+  pub represented_all : (sub : List ℕ → Places Stored) (es : List (List ℕ)) → AllByRecursion (λ e. Represented m limit next depth (put (place_from m sub e) end)) es →
       Represented m limit next depth (places_from m sub es)
   represented_all sub [] h = record { blocks = tt; fits = tt; tidy = tt; numbered = tt; levels = omega arith }
   represented_all sub (e ∷ es) h = represented_put (place_from m sub e) (places_from m sub es) h.0 (represented_all sub es h.1)

@@ -1,6 +1,6 @@
 -- The worked example is what the definitions make of it.
 use Rattle.std.proofs.Common.{◌≡◌, ℕ, ◌<◌, Bool, true, false, cond, ◌&&◌, eqb, ltb, List, [], ◌∷◌, length, Ok, refl, subst, arith}
-use Rattle.std.specs.List.{AllByRecursion as All}
+use Rattle.std.specs.List.{AllByRecursion}
 use Rattle.std.proofs.lemmas.Bool.{and_parts, ltb-true, eqb-true}
 use Rattle.plain.specs.Names.{every}
 use Rattle.layout.specs.Numbers.{bytes16, bytes32, number16, number32, fit}
@@ -48,7 +48,7 @@ vectors = record {
 }
 
 -- the example's map holds blocks of 512 bytes
-bytes_below : (l : List ℕ) → every (λ x. ltb x 256) l ≡ true → All (λ x. x < 256) l
+bytes_below : (l : List ℕ) → every (λ x. ltb x 256) l ≡ true → AllByRecursion (λ x. x < 256) l
 bytes_below [] h = tt
 bytes_below (x ∷ l) h = let p = and_parts (ltb x 256) (every (λ y. ltb y 256) l) h in (ltb-true x 256 p.0, bytes_below l p.1)
 
@@ -61,11 +61,11 @@ holds_bytes (x ∷ bs) h a b e =
     let p = and_parts (is_block x.1) (every (λ y. is_block y.1) bs) h in
     by (eqb a x.0) (and_parts (eqb (length x.1) 512) (every (λ y. ltb y 256) x.1) p.0) (holds_bytes bs p.1 a b) e
   where
-    by : (t : Bool) → (eqb (length x.1) 512 ≡ true) × (every (λ y. ltb y 256) x.1 ≡ true) → (holding bs a ≡ Ok b → (length b ≡ 512) × All (λ y. y < 256) b) →
-        cond t (Ok x.1) (holding bs a) ≡ Ok b → (length b ≡ 512) × All (λ y. y < 256) b
+    by : (t : Bool) → (eqb (length x.1) 512 ≡ true) × (every (λ y. ltb y 256) x.1 ≡ true) → (holding bs a ≡ Ok b → (length b ≡ 512) × AllByRecursion (λ y. y < 256) b) →
+        cond t (Ok x.1) (holding bs a) ≡ Ok b → (length b ≡ 512) × AllByRecursion (λ y. y < 256) b
     by true q rest e =
         let same : x.1 ≡ b = cc in
-        subst (λ l. (length l ≡ 512) × All (λ y. y < 256) l) same (eqb-true (length x.1) 512 q.0, bytes_below x.1 q.1)
+        subst (λ l. (length l ≡ 512) × AllByRecursion (λ y. y < 256) l) same (eqb-true (length x.1) 512 q.0, bytes_below x.1 q.1)
     by false q rest e = rest e
 
 -- a check that passes meets the blocks of a tree, so the map stands for the example

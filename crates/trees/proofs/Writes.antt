@@ -1,7 +1,7 @@
 -- An accepted write.
 use Rattle.std.proofs.Common.{◌≡◌, ℕ, zero, suc, ◌+◌, ◌-◌, ◌*◌, ◌/◌, ◌%◌, ◌<◌, ◌≤◌, max, Bool, true, false, cond, ◌&&◌, ltb, leb, ◌≢◌, ◌⊎◌, List, [], ◌∷◌, ◌++◌, length, get_or, take, drop, replicate, Ok, sym, refl, ap, ◌∙◌, subst, inl, inr, ⊎_elim, append_assoc, arith}
 use lib.Seq.{take-append-add, drop-append-add}
-use Rattle.std.specs.List.{AllByRecursion as All}
+use Rattle.std.specs.List.{AllByRecursion}
 use Rattle.std.proofs.ByRecursion.{All-append}
 use Rattle.std.proofs.lemmas.List.{nil_from_length, append-nil, length-append, length-take, length-drop, take-append-le, drop-append-le, drop_all, drop-drop, get_or_append_left, get_or-append_right, get_or-take, get_or-drop}
 use Rattle.std.proofs.lemmas.Bool.{cases_lt, and_parts, leb-true, lt-ltb, le-ltb}
@@ -226,7 +226,7 @@ module _ (t : StoredTree) (off : ℕ) (input : List ℕ) (f : File) (w : Stored)
         (inl (added (get_or (take ni new) i 0) (omega (arith, count_take (get_or (take ni new) i 0) ni new)))))
         (cases_lt j (length w.indirect))
 
-    file_rewritten : All R (file_blocks f' w')
+    file_rewritten : AllByRecursion R (file_blocks f' w')
     file_rewritten =
         All-append R (in_blocks (file_content f.qid) 504 w'.blocks (f'.bytes ++ w'.slack)) (in_blocks (indirect_content f.qid) 126 w'.indirect (drop 6 w'.blocks))
         (all_in_blocks (file_content f.qid) 504 R w'.blocks (f'.bytes ++ w'.slack) data_rewritten)
@@ -324,7 +324,7 @@ module _ (m : BlockMap) (limit : ℕ) (t : StoredTree) (r : Represents m limit t
           blocks = λ a. omega (arith, counts a, ap (λ q. uses a (place_blocks q)) is', grown_uses t off input f w new here.fits short may ok.many a k);
           fits = subst PlaceFits (sym is') (grown_fits t off input f w new here.fits short may ok.many);
           own = λ a h. (omega (arith, counts a, uses_file a k f w, written_own t off input f w new here.fits short may ok.many a), refl);
-          rewritten = subst (λ q. All (Rewritten m l) (place_blocks q)) (sym is')
+          rewritten = subst (λ q. AllByRecursion (Rewritten m l) (place_blocks q)) (sym is')
               (file_rewritten t off input f w new here.fits short may ok.many m l k here (λ a h. omega (arith, counts a)) (λ a h. omega (arith, counts a))
               (λ a h z. omega (arith, counts a, z, ⊎_elim (λ y. y) (λ y. absurd (omega (arith, ok.unused a y, counts a))) (zero_or (count a new)))));
         })

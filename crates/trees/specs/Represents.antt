@@ -1,6 +1,6 @@
 -- When a map of blocks stands for a tree.
 use Rattle.std.specs.Prelude.{◌≡◌, ℕ, suc, ◌+◌, ◌-◌, ◌*◌, ◌/◌, ◌^◌, ◌<◌, ◌≤◌, max, cond, List, [], length, Ok, Result}
-use Rattle.std.specs.List.{AllByRecursion as All}
+use Rattle.std.specs.List.{AllByRecursion}
 use Rattle.device.specs.Refusals.{Refusal}
 use Rattle.plain.specs.Trees.{File, Leaf, free, file, Places, end, leaf, dir, Place, flat, deep, size, is_free, Tree}
 use Rattle.plain.specs.Laws.{Tidy}
@@ -78,6 +78,6 @@ pub record Represents (m : BlockMap) (limit : ℕ) (t : StoredTree) : Type 0 whe
   pub few : limit ≤ 65536
   pub formed : WellFormed (erase t)
   pub fits : PlaceFits (whole t)
-  pub within : All (λ b. InRange limit b.address) (blocks_of t)
+  pub within : AllByRecursion (λ b. InRange limit b.address) (blocks_of t)
   pub once : (a : ℕ) → uses a (blocks_of t) ≤ 1
-  pub stand : All (Stands m) (blocks_of t)
+  pub stand : AllByRecursion (Stands m) (blocks_of t)

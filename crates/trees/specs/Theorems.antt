@@ -1,6 +1,6 @@
 -- What is proved of trees on blocks.
 use Rattle.std.specs.Prelude.{◌≡◌, ℕ, ◌+◌, ◌*◌, ◌^◌, ◌<◌, ◌≤◌, max, List, [], ◌∷◌, ◌++◌, map, length, Ok}
-use Rattle.std.specs.List.{AllByRecursion as All}
+use Rattle.std.specs.List.{AllByRecursion}
 use Rattle.plain.specs.Trees as plain
 use Rattle.plain.specs.Trees.{File, Tree, end, walk, empty_tree}
 use Rattle.plain.specs.Operations.{read_at, stat_at, entry_at, written}
@@ -40,7 +40,7 @@ pub record LookUps : Type 0 where
 pub record Addable (limit : ℕ) (t : StoredTree) (n : ℕ) (new : List ℕ) : Type 0 where
   pub many : length new ≡ n
   pub once : (a : ℕ) → count a new ≤ 1
-  pub within : All (InRange limit) new
+  pub within : AllByRecursion (InRange limit) new
   pub unused : (a : ℕ) → 0 < count a new → uses a (blocks_of t) ≡ 0
 
 -- What a change with this plan and these added blocks does, where u is the plain tree that it should leave.
@@ -54,7 +54,7 @@ pub record Done (m : BlockMap) (limit : ℕ) (t : StoredTree) (p : Plan) (new : 
   -- touched blocks were the tree's and are still
   pub touched : (a : ℕ) → 0 < count a p.touched → (0 < uses a (blocks_of t)) × (count a p.released ≡ 0)
   -- a block that names a touched or added block is touched or added
-  pub above : All (λ b. (a : ℕ) → 0 < count a (pointers b.content) → 0 < count a (p.touched ++ new) → 0 < count b.address (p.touched ++ new)) (blocks_of (p.after new))
+  pub above : AllByRecursion (λ b. (a : ℕ) → 0 < count a (pointers b.content) → 0 < count a (p.touched ++ new) → 0 < count b.address (p.touched ++ new)) (blocks_of (p.after new))
 
 -- Every change that the plain tree's own rules accept.
 abbrev pub Changes : Type 0
@@ -74,9 +74,9 @@ pub record Renames : Type 0 where
   pub represented : (g : ℕ → ℕ) (limit : ℕ) (m m' : BlockMap) (t : StoredTree) → Represents m limit t →
       ((a b : ℕ) → 0 < uses a (blocks_of t) → 0 < uses b (blocks_of t) → g a ≡ g b → a ≡ b) →
       ((a : ℕ) → 0 < uses a (blocks_of t) → InRange limit (g a)) →
-      All (Stands m') (map (renamed_block g) (blocks_of t)) → Represents m' limit (renamed g t)
+      AllByRecursion (Stands m') (map (renamed_block g) (blocks_of t)) → Represents m' limit (renamed g t)
   pub plain : (g : ℕ → ℕ) (t : StoredTree) → erase (renamed g t) ≡ erase t
-  pub kept : (g : ℕ → ℕ) (x : Content) → All (λ a. g a ≡ a) (pointers x) → renamed_content g x ≡ x
+  pub kept : (g : ℕ → ℕ) (x : Content) → AllByRecursion (λ a. g a ≡ a) (pointers x) → renamed_content g x ≡ x
 
 -- A new tree is its root block.
 abbrev pub new_tree : ℕ → StoredTree
@@ -88,7 +88,7 @@ pub record NotEmpty : Type 0 where
 
 -- what can be read are blocks of 512 bytes
 abbrev pub HoldsBytes : BlockMap → Type 0
-HoldsBytes m = (a : ℕ) (b : List ℕ) → m a ≡ Ok b → (length b ≡ 512) × All (λ x. x < 256) b
+HoldsBytes m = (a : ℕ) (b : List ℕ) → m a ≡ Ok b → (length b ≡ 512) × AllByRecursion (λ x. x < 256) b
 
 -- A check that passes has met the blocks of a tree: the one that they say, read by their layouts. A tree's blocks pass.
 pub record Checks : Type 0 where

@@ -1,6 +1,6 @@
 -- A tree and its thirteen blocks written out by hand, as docs/FORMAT.md shows them, and what the definitions make of them.
 use Rattle.std.specs.Prelude.{◌≡◌, ℕ, ◌-◌, ◌/◌, ◌%◌, cond, List, [], ◌∷◌, ◌++◌, map, length, replicate, Some, Ok, Err, codes, Result, ◌==◌}
-use Rattle.std.specs.List.{flat_map, AllByRecursion as All}
+use Rattle.std.specs.List.{flat_map, AllByRecursion}
 use Rattle.device.specs.Refusals.{Refusal}
 use Rattle.plain.specs.Trees.{Leaf, file, Places, leaf, dir, frees}
 use Rattle.plain.specs.Operations.{Stat}
@@ -134,7 +134,7 @@ appended = (plan_of example append).after (15 ∷ [])
 pub record Vectors : Type 0 where
   -- the blocks in post-order, and that the bytes by hand are theirs
   pub post_order : map (λ b. b.address) (blocks_of example) ≡ 5 ∷ 6 ∷ 7 ∷ 8 ∷ 9 ∷ 10 ∷ 12 ∷ 11 ∷ 4 ∷ 13 ∷ 3 ∷ 14 ∷ 2 ∷ []
-  pub stand : All (Stands example_map) (blocks_of example)
+  pub stand : AllByRecursion (Stands example_map) (blocks_of example)
   pub decoded : tree_at example_map 2 11 ≡ example
   -- the check meets each of them; the last that it met is first
   pub checked : check example_map ≡ Ok (14 ∷ 13 ∷ 4 ∷ 12 ∷ 10 ∷ 9 ∷ 8 ∷ 7 ∷ 6 ∷ 5 ∷ 11 ∷ 3 ∷ 2 ∷ [])
