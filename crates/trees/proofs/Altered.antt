@@ -1,13 +1,13 @@
 -- What names lead to changes: what becomes of the blocks, the addresses and the notes of all that is above it and beside it.
-use Rattle.std.proofs.Common.{◌≡◌, ℕ, zero, suc, ◌+◌, ◌*◌, ◌/◌, ◌<◌, ◌≤◌, ◌≢◌, ◌⊎◌, List, [], ◌∷◌, ◌++◌, length, get_or, sym, refl, ap, ◌∙◌, subst, inl, inr, ⊎_elim, arith}
+use Rattle.std.proofs.Common.{◌≡◌, ℕ, zero, suc, ◌+◌, ◌/◌, ◌<◌, ◌≤◌, List, [], ◌∷◌, length, get_or, sym, ap, ◌∙◌, subst, arith}
 use Rattle.std.specs.List.{AllByRecursion}
 use Rattle.std.proofs.ByRecursion.{All-set, All-get_or}
-use Rattle.plain.specs.Trees.{Dir, Leaf, free, Places, Place, flat, deep, size, at, set_at, find, walk}
+use Rattle.plain.specs.Trees.{Dir, free, Places, Place, flat, deep, size, at, set_at, find, walk}
 use Rattle.plain.proofs.Walking.{walk_free, found_within}
 use Rattle.trees.specs.Stored.{Stored, directory_content, entries, own_blocks, row_blocks, place_blocks, count, uses}
-use Rattle.trees.specs.Represents.{BlockMap, Stands, DirFits, PlaceFits}
+use Rattle.trees.specs.Represents.{BlockMap, Stands, PlaceFits}
 use Rattle.trees.specs.Plans.{home_of, trail, alter}
-use Rattle.trees.proofs.Lists.{zero_or, one, one_same, one_other, one_equal, count_at, uses_all, all_uninterleaved, in_blocks_at}
+use Rattle.trees.proofs.Lists.{one, one_same, uses_all, all_uninterleaved, in_blocks_at}
 use Rattle.trees.proofs.Nodes.{row_set, row_at, length_row, uses_deep, uses_set, uses_at, size_set, fits_at, fits_set}
 use Rattle.trees.proofs.Placed.{Rewritten, place_rewritten}
 

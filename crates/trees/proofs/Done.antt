@@ -1,16 +1,16 @@
 -- From a change of what names lead to, the whole of what a change does.
-use Rattle.std.proofs.Common.{◌≡◌, ℕ, zero, suc, ◌+◌, ◌<◌, ◌≤◌, Bool, true, false, cond, eqb, ltb, ◌≢◌, ◌⊎◌, List, [], ◌∷◌, ◌++◌, length, Ok, sym, refl, ap, ◌∙◌, subst, inl, inr, ⊎_elim, arith}
+use Rattle.std.proofs.Common.{◌≡◌, ℕ, ◌+◌, ◌<◌, ◌≤◌, Bool, true, false, cond, ltb, ◌≢◌, List, [], ◌∷◌, ◌++◌, Ok, sym, refl, ap, ◌∙◌, subst, inl, inr, ⊎_elim, arith}
 use Rattle.std.specs.List.{AllByRecursion}
 use Rattle.std.proofs.ByRecursion.{All-weaker}
 use Rattle.std.proofs.lemmas.Bool.{cases_eq, eq-eqb, ne_eqb, lt-ltb}
 use Rattle.plain.specs.Trees.{Place, flat, free, walk, slash, Tree}
-use Rattle.trees.specs.Stored.{Stored, encoded, pointers, Block, place_blocks, StoredTree, root_place, whole, blocks_of, count, uses, erase}
+use Rattle.trees.specs.Stored.{Stored, encoded, pointers, Block, place_blocks, StoredTree, whole, blocks_of, count, uses, erase}
 use Rattle.trees.specs.Represents.{BlockMap, Stands, InRange, PlaceFits, WellFormed, Represents}
-use Rattle.trees.specs.Plans.{Plan, trail, alter, trail_to, altered, written_at}
+use Rattle.trees.specs.Plans.{Plan, alter, trail_to, altered, written_at}
 use Rattle.trees.specs.Theorems.{Addable, Done}
-use Rattle.trees.proofs.Lists.{zero_or, one, one_same, one_other, count_append, all_counted, all_used, all_both}
-use Rattle.trees.proofs.Placed.{Rewritten, Untouched}
-use Rattle.trees.proofs.Altered.{uses_walk, uses_trail, alter_uses, alter_fits, alter_rewritten, Sound}
+use Rattle.trees.proofs.Lists.{zero_or, one_same, one_other, count_append, all_counted, all_used, all_both}
+use Rattle.trees.proofs.Placed.{Rewritten}
+use Rattle.trees.proofs.Altered.{uses_trail, alter_uses, alter_fits, alter_rewritten, Sound}
 
 -- what holds of the address of each block holds of every address that is used, and the other way round
 pub all_by_use : (Q : ℕ → Type 0) (bs : List Block) → ((a : ℕ) → 0 < uses a bs → Q a) → AllByRecursion (λ b. Q b.address) bs

@@ -1,11 +1,10 @@
 -- Searches, walks and changes do not see the notes of a tree.
-use Rattle.std.proofs.Common.{◌≡◌, ℕ, zero, suc, ◌+◌, Bool, true, false, cond, ltb, List, [], ◌∷◌, ◌++◌, sym, refl, ap, ◌∙◌, subst, arith}
+use Rattle.std.proofs.Common.{◌≡◌, ℕ, zero, suc, Bool, true, false, cond, ltb, List, [], ◌∷◌, ◌++◌, sym, refl, ap, ◌∙◌, arith}
 use Rattle.std.specs.Str.{bytes_eq}
-use Rattle.plain.specs.Trees.{Dir, Leaf, free, file, Places, end, leaf, dir, Place, flat, deep, put, size, at, set_at, is_free, has_name, first_free, find, named, used, frees, append, child, walk, modify}
-use Rattle.plain.specs.Operations.{roomy, make_in}
-use Rattle.plain.proofs.Walking.{modify_step, walk_flat, walk_free}
+use Rattle.plain.specs.Trees.{Dir, free, file, Places, end, leaf, dir, Place, flat, deep, put, size, at, set_at, first_free, find, used, frees, append, walk, modify}
+use Rattle.plain.proofs.Walking.{modify_step, walk_flat}
 use Rattle.trees.specs.Stored.{map_leaf, map_places, map_place}
-use Rattle.trees.specs.Plans.{alter}
+use Rattle.trees.specs.Plans.{alter, with_room, with_node}
 
 module _ {W Y : Type 0} (g : W → Y) where
   pub map_at : (c : Places W) (i : ℕ) → map_place g (at c i) ≡ at (map_places g c) i
@@ -54,18 +53,18 @@ module _ {W Y : Type 0} (g : W → Y) where
   map_used (leaf (file n x w) k) = omega (arith, map_used k)
   map_used (dir n d w c k) = ap suc (map_used k)
 
-  map_roomy : (c : Places W) → map_places g (roomy c) ≡ roomy (map_places g c)
-  map_roomy c = rw (map_free c, map_size c) (by (ltb (first_free c) (size c)))
+  map_room : (c : Places W) → map_places g (with_room c) ≡ with_room (map_places g c)
+  map_room c = rw (map_free c, map_size c) (by (ltb (first_free c) (size c)))
     where
       by : (b : Bool) → map_places g (cond b c (append c (frees 7))) ≡ cond b (map_places g c) (append (map_places g c) (frees 7))
       by true = refl
       by false = map-append c (frees 7)
 
-  pub map_make : (x : Place W) (c : Places W) → map_places g (make_in x c) ≡ make_in (map_place g x) (map_places g c)
+  pub map_make : (x : Place W) (c : Places W) → map_places g (with_node x c) ≡ with_node (map_place g x) (map_places g c)
   map_make x c =
-      map-set (roomy c) (first_free (roomy c)) x
-      ∙ ap (λ i. set_at (map_places g (roomy c)) i (map_place g x)) (sym (map_free (roomy c)))
-      ∙ ap (λ k. set_at k (first_free k) (map_place g x)) (map_roomy c)
+      map-set (with_room c) (first_free (with_room c)) x
+      ∙ ap (λ i. set_at (map_places g (with_room c)) i (map_place g x)) (sym (map_free (with_room c)))
+      ∙ ap (λ k. set_at k (first_free k) (map_place g x)) (map_room c)
 
   pub map_walk : (ns : List (List ℕ)) (p : Place W) → map_place g (walk ns p) ≡ walk ns (map_place g p)
   map_walk [] p = refl

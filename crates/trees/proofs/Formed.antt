@@ -1,11 +1,12 @@
 -- Every change of a plain tree leaves one that the layouts have room for.
-use Rattle.std.proofs.Common.{◌≡◌, ℕ, zero, suc, ◌+◌, ◌^◌, ◌<◌, ◌≤◌, max, Bool, true, false, cond, ltb, List, [], ◌∷◌, ◌++◌, length, Some, Ok, sym, refl, ap, subst, arith}
+use Rattle.std.proofs.Common.{◌≡◌, ℕ, zero, suc, ◌+◌, ◌^◌, ◌<◌, ◌≤◌, max, Bool, true, false, cond, eqb, ltb, List, [], ◌∷◌, ◌++◌, length, Some, None, Ok, Err, Option, Result, sym, refl, ap, subst, arith}
 use Rattle.std.specs.Str.{bytes_eq}
 use Rattle.std.proofs.lemmas.List.{length-append}
+use Rattle.std.proofs.lemmas.Bool.{eq-eqb, false≢true}
 use Rattle.plain.specs.Names.{is_name}
-use Rattle.plain.specs.Paths.{path_of}
-use Rattle.plain.specs.Trees.{File, free, file, Places, end, leaf, dir, Place, flat, deep, put, size, at, set_at, is_free, first_free, find, frees, append, walk, modify, Tree, Plain, root_place}
-use Rattle.plain.specs.Operations.{roomy, make_in, inside, new_node, make, write, remove, written, put_file, remove_in}
+use Rattle.plain.specs.Paths.{path_of, front, final}
+use Rattle.plain.specs.Trees.{File, free, file, Places, end, leaf, dir, Place, flat, deep, put, size, at, set_at, is_free, first_free, find, named, used, frees, append, walk, modify, Tree, Plain, root_place}
+use Rattle.plain.specs.Operations.{make_in, make_at, make_on, inside, new_node, make, write, remove, written, put_file, remove_in}
 use Rattle.plain.specs.Laws.{Tidy}
 use Rattle.plain.specs.Histories as call
 use Rattle.plain.specs.Books.{changed}
@@ -14,6 +15,7 @@ use Rattle.plain.proofs.Pieces.{path_is}
 use Rattle.plain.proofs.MakeLaw.{accepted_make, made_tidy}
 use Rattle.plain.proofs.WriteLaw.{accepted_write, wrote_tidy}
 use Rattle.plain.proofs.RemoveLaw.{accepted_remove, removed_tidy}
+use Rattle.trees.specs.Plans.{with_room, with_node}
 use Rattle.trees.specs.Represents.{levels, LeafNumbered, Numbered, WellFormed}
 
 module _ {W : Type 0} where
@@ -104,15 +106,15 @@ module _ {W : Type 0} where
   numbered_frees next n (leaf l k) h = (h.0, numbered_frees next n k h.1)
   numbered_frees next n (dir m d w c k) h = (h.0, h.1, h.2, numbered_frees next n k h.3)
 
-  roomy_is : (P : Places W → Type 0) (c : Places W) → P c → P (append c (frees 7)) → P (roomy c)
-  roomy_is P c h k = elim (ltb (first_free c) (size c)) as (λ b. P (cond b c (append c (frees 7)))) [ true ↦ h | false ↦ k ]
+  room_is : (P : Places W → Type 0) (c : Places W) → P c → P (append c (frees 7)) → P (with_room c)
+  room_is P c h k = elim (ltb (first_free c) (size c)) as (λ b. P (cond b c (append c (frees 7)))) [ true ↦ h | false ↦ k ]
 
-  levels_make : (x : Place W) (c : Places W) → levels (make_in x c) ≤ max (place_levels x) (levels c)
+  levels_make : (x : Place W) (c : Places W) → levels (with_node x c) ≤ max (place_levels x) (levels c)
   levels_make x c =
-      omega (arith, levels_set (roomy c) (first_free (roomy c)) x, roomy_is (λ k. levels k ≡ levels c) c refl (levels_frees 7 c))
+      omega (arith, levels_set (with_room c) (first_free (with_room c)) x, room_is (λ k. levels k ≡ levels c) c refl (levels_frees 7 c))
 
-  numbered_make : (next : ℕ) (x : Place W) (c : Places W) → PlaceNumbered next x → Numbered next c → Numbered next (make_in x c)
-  numbered_make next x c p h = numbered_set next (roomy c) (first_free (roomy c)) x p (roomy_is (Numbered next) c h (numbered_frees next 7 c h))
+  numbered_make : (next : ℕ) (x : Place W) (c : Places W) → PlaceNumbered next x → Numbered next c → Numbered next (with_node x c)
+  numbered_make next x c p h = numbered_set next (with_room c) (first_free (with_room c)) x p (room_is (Numbered next) c h (numbered_frees next 7 c h))
 
 -- what a tree keeps when a call changes the places of the directory that has the last name of a path
 formed_inside : (path : List ℕ) (ns : List (List ℕ)) (n : List ℕ) (f : Plain → Plain) (next : ℕ) (t u : Tree) →
@@ -144,12 +146,31 @@ new_numbered : (is_dir : Bool) (n : List ℕ) (q : ℕ) → PlaceNumbered (q + 1
 new_numbered true n q = (omega arith, omega arith, tt)
 new_numbered false n q = (omega arith, omega arith)
 
+-- a make that is accepted had a qid to give
+qid_left : (is_dir : Bool) (path : List ℕ) (t u : Tree) → make is_dir path t ≡ Ok u → t.next_qid ≡ 4294967295 → ⊥
+qid_left is_dir path t u ok last = go (path_of path) ok
+  where
+    by : (v : Result Tree ℕ) (present full given : Bool) → given ≡ true → cond present (Err 16) (cond full (Err 18) (cond given (Err 20) v)) ≡ Ok u → ⊥
+    by v true full given e ok = let z : ◌≡◌ {A = ℕ} 0 1 = cc in omega arith
+    by v false true given e ok = let z : ◌≡◌ {A = ℕ} 0 1 = cc in omega arith
+    by v false false true e ok = let z : ◌≡◌ {A = ℕ} 0 1 = cc in omega arith
+    by v false false false e ok = false≢true e
+
+    place : (ns : List (List ℕ)) (n : List ℕ) (p : Place (Unit {0})) → make_at is_dir ns n t p ≡ Ok u → ⊥
+    place ns n (flat l) ok = let z : ◌≡◌ {A = ℕ} 0 1 = cc in omega arith
+    place ns n (deep m d w c) ok = by _ (ltb 0 (named n c)) (eqb (used c) 42) (eqb t.next_qid 4294967295) (eq-eqb _ _ last) ok
+
+    go : (o : Option (List (List ℕ))) → make_on is_dir o t ≡ Ok u → ⊥
+    go None ok = let z : ◌≡◌ {A = ℕ} 0 1 = cc in omega arith
+    go (Some []) ok = let z : ◌≡◌ {A = ℕ} 0 1 = cc in omega arith
+    go (Some (n ∷ ns)) ok = place (front n ns) (final n ns) (walk (front n ns) (root_place t)) ok
+
 formed_make : (is_dir : Bool) (path : List ℕ) (t u : Tree) → WellFormed t → make is_dir path t ≡ Ok u → WellFormed u
 formed_make is_dir path t u h ok =
     let w = accepted_make is_dir path t u ok in
     let tidy = made_tidy is_dir path t u w h.tidy (path_name path w.ns w.n w.path_is) in
     let x = new_node is_dir w.n t.next_qid in
-    let room : t.next_qid + 1 < 2 ^ 32 = let few = h.next.1 in omega (arith, few, w.qid_left) in
+    let room : t.next_qid + 1 < 2 ^ 32 = let few = h.next.1 in omega (arith, few, qid_left is_dir path t u ok) in
     formed_inside path w.ns w.n (make_in x) (t.next_qid + 1) t u w.path_is w.is tidy h
     (λ c. omega (arith, levels_make x c, new_levels is_dir w.n t.next_qid)) (omega arith) room
     (λ c. numbered_make (t.next_qid + 1) x c (new_numbered is_dir w.n t.next_qid))

@@ -1,8 +1,8 @@
 -- An accepted make: into an empty place of a directory, or into a directory that grows by a block.
-use Rattle.std.proofs.Common.{◌≡◌, ℕ, zero, suc, ◌+◌, ◌-◌, ◌*◌, ◌/◌, ◌<◌, ◌≤◌, Bool, true, false, cond, ltb, ◌≢◌, ◌⊎◌, List, [], ◌∷◌, ◌++◌, length, get_or, take, drop, Ok, sym, refl, ap, ◌∙◌, subst, inl, inr, ⊎_elim, arith, length-append}
+use Rattle.std.proofs.Common.{◌≡◌, ℕ, zero, suc, ◌+◌, ◌*◌, ◌/◌, ◌<◌, ◌≤◌, Bool, true, false, cond, ltb, ◌≢◌, List, [], ◌∷◌, ◌++◌, length, get_or, take, drop, Ok, sym, refl, ap, ◌∙◌, subst, ⊎_elim, arith, length-append}
 use lib.Seq.{take-append-le, drop-append-le}
 use Rattle.std.specs.List.{AllByRecursion}
-use Rattle.std.proofs.ByRecursion.{All-append, All-set}
+use Rattle.std.proofs.ByRecursion.{All-set}
 use Rattle.std.proofs.lemmas.List.{nil_from_length, append-nil, get_or_append_left, get_or-append_right, same_from_push, length-drop}
 use Rattle.std.proofs.lemmas.Bool.{cases_lt, ltb-true, ltb-false}
 use Rattle.plain.specs.Paths.{path_of, front, final}
@@ -13,8 +13,8 @@ use Rattle.plain.specs.Operations.{make_in, inside}
 use Rattle.plain.proofs.Changes.{front_final}
 use Rattle.plain.proofs.MakeLaw.{MadeAt, accepted_make}
 use Rattle.trees.specs.Stored.{Stored, Block, directory_content, entries, own_blocks, row_blocks, place_blocks, map_places, map_place, StoredTree, root_place, whole, blocks_of, count, uses, erase}
-use Rattle.trees.specs.Represents.{BlockMap, Stands, DirFits, Fits, PlaceFits, WellFormed, Represents}
-use Rattle.trees.specs.Plans.{Plan, home_of, trail_to, alter, altered, new_node, made_in, make_plan, on_path}
+use Rattle.trees.specs.Represents.{BlockMap, Stands, Fits, PlaceFits, WellFormed, Represents}
+use Rattle.trees.specs.Plans.{Plan, home_of, trail_to, alter, altered, new_node, made_in, make_plan, on_path, with_room}
 use Rattle.trees.specs.Theorems.{Addable, Done}
 use Rattle.trees.proofs.Lists.{zero_or, one, one_same, count_append, count_at, uses_all, chunk, block_at, in_blocks_at}
 use Rattle.trees.proofs.Nodes.{row_set, length_entries, uses_deep, uses_set, size_set, fits_set}
@@ -233,9 +233,9 @@ module _ (m : BlockMap) (limit : ℕ) (t : StoredTree) (r : Represents m limit t
         let on : i / 7 < length w.blocks = omega (arith, here.fits.0.blocks) in
         let none : new ≡ [] = nil_from_length new ok.many in
         let empty = new_blocks t is_dir at_it.n in
-        let roomy_is : tree.roomy c ≡ c = ap (λ b. cond b c (append c (frees 7))) e in
+        let room_is : with_room c ≡ c = ap (λ b. cond b c (append c (frees 7))) e in
         let note : ◌≡◌ {A = Stored} (record { blocks = w.blocks ++ new; indirect = w.indirect; slack = w.slack }) w = λ j. record { blocks = (ap (λ l. w.blocks ++ l) none ∙ append-nil w.blocks) j; indirect = w.indirect; slack = w.slack } in
-        let is' : made_in t x new (walk names (root_place t)) ≡ deep k d w (set_at c i x) = ap (made_in t x new) is ∙ (λ j. deep k d (note j) (set_at (roomy_is j) (first_free (roomy_is j)) x)) in
+        let is' : made_in t x new (walk names (root_place t)) ≡ deep k d w (set_at c i x) = ap (made_in t x new) is ∙ (λ j. deep k d (note j) (set_at (room_is j) (first_free (room_is j)) x)) in
         let home : 0 < one (home_of w i) (home_of w i) = omega (arith, one_same (home_of w i)) in
         finish (home_of w i ∷ []) 0 new ok (record {
           found = found;
@@ -250,9 +250,9 @@ module _ (m : BlockMap) (limit : ℕ) (t : StoredTree) (r : Represents m limit t
     make_at_lem false e new ok =
         let full : size c ≤ first_free c = ltb-false (first_free c) (size c) e in
         let empty = new_blocks t is_dir at_it.n in
-        let roomy_is : tree.roomy c ≡ append c (frees 7) = ap (λ b. cond b c (append c (frees 7))) e in
+        let room_is : with_room c ≡ append c (frees 7) = ap (λ b. cond b c (append c (frees 7))) e in
         let is' : made_in t x new (walk names (root_place t)) ≡ deep k d (w⁺ m (hot_of [] new) k d w c here x empty full new ok.many) (set_at (append c (frees 7)) (first_free (append c (frees 7))) x) =
-        ap (made_in t x new) is ∙ ap (λ y. deep k d (record { blocks = w.blocks ++ new; indirect = w.indirect; slack = w.slack }) (set_at y (first_free y) x)) roomy_is in
+        ap (made_in t x new) is ∙ ap (λ y. deep k d (record { blocks = w.blocks ++ new; indirect = w.indirect; slack = w.slack }) (set_at y (first_free y) x)) room_is in
         finish [] 1 new ok (record {
           found = found;
           same = root_whole t names (made_in t x new) (t.next_qid + 1) u (seen new);

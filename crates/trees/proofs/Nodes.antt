@@ -1,10 +1,9 @@
 -- The blocks, entries and notes of a directory's places, one by one.
-use Rattle.std.proofs.Common.{◌≡◌, ℕ, zero, suc, ◌+◌, ◌<◌, ◌≤◌, List, [], ◌∷◌, ◌++◌, map, length, get_or, drop, set, sym, refl, ap, ◌∙◌, subst, arith}
-use Rattle.std.specs.List.{AllByRecursion}
-use Rattle.plain.specs.Trees.{File, Dir, Leaf, free, file, Places, end, leaf, dir, Place, flat, deep, put, size, at, set_at, find, walk}
-use Rattle.layout.specs.Entries.{Entry, empty_entry}
+use Rattle.std.proofs.Common.{◌≡◌, ℕ, zero, suc, ◌+◌, ◌<◌, ◌≤◌, List, [], ◌∷◌, ◌++◌, length, get_or, drop, set, refl, ap, arith}
+use Rattle.plain.specs.Trees.{File, Dir, file, Places, end, leaf, dir, Place, flat, deep, put, size, at, set_at}
+use Rattle.layout.specs.Entries.{empty_entry}
 use Rattle.trees.specs.Stored.{Stored, Block, file_content, indirect_content, directory_content, leaf_entry, place_entry, entries, leaf_blocks, own_blocks, row_blocks, place_blocks, count, uses}
-use Rattle.trees.specs.Represents.{LeafFits, Fits, DirFits, PlaceFits}
+use Rattle.trees.specs.Represents.{Fits, PlaceFits}
 use Rattle.trees.proofs.Lists.{uses_all, uses_append, uses_interleaved, uses_in_blocks}
 
 -- what a directory says of a place, and of each after a change of one

@@ -1,17 +1,17 @@
 -- One place of a directory changes: which blocks that leaves as they were, and what they name.
-use Rattle.std.proofs.Common.{◌≡◌, ℕ, zero, suc, ◌+◌, ◌-◌, ◌*◌, ◌/◌, ◌<◌, ◌≤◌, Bool, true, false, cond, eqb, ◌≢◌, ◌⊎◌, List, [], ◌∷◌, ◌++◌, length, get_or, take, drop, set, sym, refl, ap, ◌∙◌, subst, inl, inr, ⊎_elim, arith, length-set, drop-set-lt}
+use Rattle.std.proofs.Common.{◌≡◌, ℕ, zero, suc, ◌+◌, ◌-◌, ◌*◌, ◌/◌, ◌<◌, ◌≤◌, Bool, true, false, cond, eqb, ◌≢◌, ◌⊎◌, List, [], ◌∷◌, ◌++◌, length, get_or, take, drop, set, sym, refl, ap, ◌∙◌, subst, inl, inr, ⊎_elim, arith, drop-set-lt}
 use lib.Seq.{drop-set-add, take-set-le}
 use Rattle.std.specs.List.{flat_map, AllByRecursion}
-use Rattle.std.proofs.ByRecursion.{All-set, All-weaker}
+use Rattle.std.proofs.ByRecursion.{All-append, All-set, All-weaker}
 use Rattle.std.proofs.lemmas.List.{set-set}
 use Rattle.std.proofs.lemmas.Bool.{cases_eq, cases_lt}
-use Rattle.plain.specs.Trees.{Dir, Leaf, free, file, Places, end, leaf, dir, Place, flat, deep, size, at, set_at}
+use Rattle.plain.specs.Trees.{Dir, Leaf, free, file, Places, end, leaf, dir, Place, flat, deep, set_at}
 use Rattle.layout.specs.Entries.{Entry}
-use Rattle.trees.specs.Stored.{Stored, Content, file_content, indirect_content, directory_content, entry_pointers, pointers, Block, leaf_entry, dir_entry, place_entry, entries, leaf_blocks, own_blocks, interleaved, row_blocks, place_blocks, in_blocks, count, uses}
-use Rattle.trees.specs.Represents.{BlockMap, Stands, DirFits}
+use Rattle.trees.specs.Stored.{Stored, file_content, indirect_content, directory_content, entry_pointers, pointers, Block, leaf_entry, dir_entry, place_entry, entries, leaf_blocks, own_blocks, row_blocks, place_blocks, in_blocks, count, uses}
+use Rattle.trees.specs.Represents.{BlockMap, Stands}
 use Rattle.trees.specs.Plans.{home_of}
-use Rattle.trees.proofs.Lists.{zero_or, one, one_same, count_append, count_take, count_parts, count_at, uses_all, uses_append, all_both, all_interleaved, all_uninterleaved, chunk, block_at, all_in_blocks, in_blocks_at, uses_in_blocks}
-use Rattle.trees.proofs.Nodes.{entries_set, row_set, length_entries, length_row, uses_file, uses_deep, uses_set}
+use Rattle.trees.proofs.Lists.{count_append, count_take, count_parts, uses_all, all_both, all_interleaved, chunk, block_at, all_in_blocks}
+use Rattle.trees.proofs.Nodes.{entries_set, row_set, uses_file, uses_deep}
 
 -- a change of one element leaves the other chunks
 pub chunk_set : {X : Type 0} (n j i : ℕ) (xs : List X) (x : X) → ((n * j ≤ i) × (i < n * j + n) → ⊥) → chunk n j (set xs i x) ≡ chunk n j xs
@@ -72,7 +72,7 @@ widen_all f g ls le h = All-weaker (AllByRecursion (NamesWithin f)) (AllByRecurs
 leaf_names : (l : Leaf Stored) → AllByRecursion (NamesWithin (λ a. uses a (leaf_blocks l))) (leaf_blocks l)
 leaf_names free = tt
 leaf_names (file n f w) =
-    Rattle.std.proofs.lemmas.List.Elements.All-append (NamesWithin (λ a. uses a (leaf_blocks (file n f w)))) (in_blocks (file_content f.qid) 504 w.blocks (f.bytes ++ w.slack)) (in_blocks (indirect_content f.qid) 126 w.indirect (drop 6 w.blocks))
+    All-append (NamesWithin (λ a. uses a (leaf_blocks (file n f w)))) (in_blocks (file_content f.qid) 504 w.blocks (f.bytes ++ w.slack)) (in_blocks (indirect_content f.qid) 126 w.indirect (drop 6 w.blocks))
     (all_in_blocks (file_content f.qid) 504 (NamesWithin (λ a. uses a (leaf_blocks (file n f w)))) w.blocks (f.bytes ++ w.slack) (λ j lt a. omega arith))
     (all_in_blocks (indirect_content f.qid) 126 (NamesWithin (λ a. uses a (leaf_blocks (file n f w)))) w.indirect (drop 6 w.blocks) (λ j lt a.
     omega (arith, uses_file a n f w, count_take a 126 (drop (126 * j) (drop 6 w.blocks)), count_drop a (126 * j) (drop 6 w.blocks), count_drop a 6 w.blocks)))

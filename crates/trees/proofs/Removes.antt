@@ -1,7 +1,7 @@
 -- An accepted remove.
-use Rattle.std.proofs.Common.{◌≡◌, ℕ, zero, suc, ◌+◌, ◌<◌, ◌≤◌, List, [], ◌∷◌, ◌++◌, length, Ok, sym, refl, ap, ◌∙◌, subst, arith}
+use Rattle.std.proofs.Common.{◌≡◌, ℕ, List, [], ◌∷◌, ◌++◌, Ok, sym, refl, ap, ◌∙◌, subst, arith}
 use Rattle.std.proofs.lemmas.List.{nil_from_length, append-nil}
-use Rattle.plain.specs.Paths.{path_of, front, final}
+use Rattle.plain.specs.Paths.{path_of}
 use Rattle.plain.specs.Trees as plain
 use Rattle.plain.specs.Trees.{Leaf, free, file, Places, end, leaf, dir, Place, flat, deep, used, walk, slash, Tree}
 use Rattle.plain.specs.Operations as tree
@@ -9,9 +9,9 @@ use Rattle.plain.specs.Operations.{remove_in, inside}
 use Rattle.plain.specs.Histories.{remove}
 use Rattle.plain.proofs.Changes.{Home, home}
 use Rattle.plain.proofs.RemoveLaw.{Bare, RemovedAt, accepted_remove}
-use Rattle.trees.specs.Stored.{Stored, place_blocks, row_blocks, map_places, StoredTree, root_place, whole, count, uses, erase}
+use Rattle.trees.specs.Stored.{Stored, place_blocks, row_blocks, StoredTree, root_place, count, uses, erase}
 use Rattle.trees.specs.Represents.{BlockMap, WellFormed, Represents}
-use Rattle.trees.specs.Plans.{Plan, trail_to, alter, altered, blocks_at, remove_plan, plan_of}
+use Rattle.trees.specs.Plans.{trail_to, alter, altered, blocks_at, remove_plan, plan_of}
 use Rattle.trees.specs.Theorems.{Addable, Done}
 use Rattle.trees.proofs.Lists.{uses_all, count_append}
 use Rattle.trees.proofs.Nodes.{uses_file, uses_deep}

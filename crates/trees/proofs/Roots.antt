@@ -1,9 +1,9 @@
 -- The tree with another place for "/", by what the plain tree sees of that place.
-use Rattle.std.proofs.Common.{◌≡◌, ℕ, ◌+◌, List, [], ◌∷◌, ◌++◌, length, Some, None, Option, sym, refl, ap, ◌∙◌, subst, arith, length-append}
+use Rattle.std.proofs.Common.{◌≡◌, ℕ, List, [], ◌∷◌, ◌++◌, length, Some, None, Option, sym, refl, ap, arith, length-append}
 use Rattle.plain.specs.Trees as plain
 use Rattle.plain.specs.Trees.{Dir, Leaf, Places, Place, flat, deep, put, frees, slash, Tree, walk}
 use Rattle.trees.specs.Stored.{Stored, map_places, map_place, StoredTree, root_place, whole, erase}
-use Rattle.trees.specs.Plans.{Plan, with_root, alter, altered, idle, on_path}
+use Rattle.trees.specs.Plans.{Plan, with_root, alter, altered, on_path}
 use Rattle.trees.proofs.Erased.{map_walk}
 
 abbrev pub erased : {W : Type 0} → Place W → Place (Unit {0})

@@ -1,9 +1,9 @@
 -- An accepted write.
-use Rattle.std.proofs.Common.{◌≡◌, ℕ, zero, suc, ◌+◌, ◌-◌, ◌*◌, ◌/◌, ◌%◌, ◌<◌, ◌≤◌, max, Bool, true, false, cond, ◌&&◌, ltb, leb, ◌≢◌, ◌⊎◌, List, [], ◌∷◌, ◌++◌, length, get_or, take, drop, replicate, Ok, sym, refl, ap, ◌∙◌, subst, inl, inr, ⊎_elim, append_assoc, arith}
+use Rattle.std.proofs.Common.{◌≡◌, ℕ, zero, suc, ◌+◌, ◌-◌, ◌*◌, ◌/◌, ◌<◌, ◌≤◌, max, Bool, true, false, cond, ◌&&◌, ltb, leb, ◌⊎◌, List, [], ◌∷◌, ◌++◌, length, get_or, take, drop, replicate, Ok, sym, refl, ap, ◌∙◌, subst, inl, inr, ⊎_elim, append_assoc, arith}
 use lib.Seq.{take-append-add, drop-append-add}
 use Rattle.std.specs.List.{AllByRecursion}
 use Rattle.std.proofs.ByRecursion.{All-append}
-use Rattle.std.proofs.lemmas.List.{nil_from_length, append-nil, length-append, length-take, length-drop, take-append-le, drop-append-le, drop_all, drop-drop, get_or_append_left, get_or-append_right, get_or-take, get_or-drop}
+use Rattle.std.proofs.lemmas.List.{nil_from_length, append-nil, length-append, length-take, length-drop, take-append-le, drop-append-le, drop_all, get_or_append_left, get_or-append_right, get_or-take, get_or-drop}
 use Rattle.std.proofs.lemmas.Bool.{cases_lt, and_parts, leb-true, lt-ltb, le-ltb}
 use Rattle.plain.specs.Paths.{path_of}
 use Rattle.plain.specs.Trees as plain
@@ -20,14 +20,14 @@ use Rattle.layout.proofs.Parts.{length_fit}
 use Rattle.layout.proofs.Patches.{patched_beside}
 use Rattle.trees.specs.Stored.{Stored, Content, file_content, indirect_content, pointers, Block, in_blocks, file_blocks, place_blocks, StoredTree, root_place, whole, blocks_of, count, uses, erase}
 use Rattle.trees.specs.Represents.{BlockMap, Stands, indirect_for, FileFits, PlaceFits, WellFormed, Represents}
-use Rattle.trees.specs.Plans.{Plan, trail_to, alter, altered, blocks_needed, new_indirect, last_block, written_blocks, grown, written_in, write_plan, plan_of}
+use Rattle.trees.specs.Plans.{trail_to, alter, blocks_needed, new_indirect, last_block, written_blocks, grown, written_in, write_plan, plan_of}
 use Rattle.trees.specs.Theorems.{Addable, Done, WriteKeeps}
 use Rattle.trees.proofs.Lists.{zero_or, count_append, count_take, count_parts, count_at, all_left, all_right, chunk, block_at, all_in_blocks, in_blocks_at}
 use Rattle.trees.proofs.Nodes.{uses_file}
 use Rattle.trees.proofs.Erased.{map_alter, alter_append, alter_modify}
 use Rattle.trees.proofs.Placed.{Rewritten}
 use Rattle.trees.proofs.Altered.{uses_trail, Sound, sound_walk}
-use Rattle.trees.proofs.Done.{Node, done}
+use Rattle.trees.proofs.Done.{done}
 use Rattle.trees.proofs.Roots.{erased, root_top, root_erased, root_whole, on_names_lem, erased_walk}
 
 -- What a file's blocks hold: the file's own bytes come first, and from there on a write is one to a longer list.

@@ -1,6 +1,6 @@
 -- The check of a whole tree in blocks that may be damaged: depth first, place by place, and it fails at the first block that is not as
 -- it should be. A place's entry is judged, then its blocks are visited, before the next place.
-use Rattle.std.specs.Prelude.{ℕ, zero, suc, ◌-◌, Bool, true, false, cond, not, ◌&&◌, ◌||◌, List, [], ◌∷◌, ◌++◌, map, Ok, Err, ◌==◌, nat_lt}
+use Rattle.std.specs.Prelude.{ℕ, zero, suc, ◌-◌, Bool, true, false, cond, not, ◌&&◌, ◌||◌, List, [], ◌∷◌, Ok, ◌==◌, nat_lt}
 use Rattle.std.specs.Str.{bytes_eq}
 use Rattle.layout.specs.declared.block.Tag.TheVariants as tag
 use Rattle.layout.specs.declared.entry.Mode.TheVariants as mode

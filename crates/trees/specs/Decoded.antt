@@ -2,7 +2,7 @@
 use Rattle.std.specs.Prelude.{ℕ, zero, suc, ◌-◌, min, cond, List, [], ◌∷◌, ◌++◌, map, take, drop, Ok, Err, Result, ◌==◌}
 use Rattle.std.specs.List.{range_with_len, flat_map}
 use Rattle.device.specs.Refusals.{Refusal}
-use Rattle.plain.specs.Trees.{Dir, Leaf, free, file, Places, end, Place, flat, deep, put}
+use Rattle.plain.specs.Trees.{Dir, free, file, Places, end, Place, flat, deep, put}
 use Rattle.layout.specs.declared.entry.Mode.TheVariants as mode
 use Rattle.layout.specs.Blocks.{body_of, address_of}
 use Rattle.layout.specs.Entries.{mode_number, name_of, mode_of, qid_of, version_of, size_of, direct_of, indirect_of, entry_at, blocks_for}

@@ -1,8 +1,8 @@
 -- Which blocks a change of the tree touches, adds and releases, and the tree that it leaves.
-use Rattle.std.specs.Prelude.{ℕ, zero, suc, ◌+◌, ◌-◌, ◌*◌, ◌/◌, max, Bool, true, false, cond, List, [], ◌∷◌, ◌++◌, length, take, drop, Some, None, Ok, Option, ◌==◌, nat_lt, slice_index}
+use Rattle.std.specs.Prelude.{ℕ, ◌+◌, ◌-◌, ◌*◌, ◌/◌, max, Bool, true, false, cond, List, [], ◌∷◌, ◌++◌, length, take, drop, Some, None, Ok, Option, ◌==◌, nat_lt, slice_index}
 use Rattle.plain.specs.Paths.{path_of, front, final}
-use Rattle.plain.specs.Trees.{File, Dir, Leaf, free, file, Places, end, Place, flat, deep, size, at, set_at, first_free, find, walk, slash}
-use Rattle.plain.specs.Operations.{make_in, written}
+use Rattle.plain.specs.Trees.{File, free, file, Places, end, Place, flat, deep, size, at, set_at, first_free, find, frees, append, walk, slash}
+use Rattle.plain.specs.Operations.{written}
 use Rattle.plain.specs.Histories.{Change, mkfile, mkdir, write, remove}
 use Rattle.layout.specs.Numbers.{fit}
 use Rattle.layout.specs.Entries.{blocks_for}
@@ -33,6 +33,14 @@ alter [] f p = f p
 alter (n ∷ ns) f (flat l) = flat l
 alter (n ∷ ns) f (deep m d w c) = deep m d w (set_at c (find n c) (alter ns f (at c (find n c))))
 
+-- The places of a directory with room for one more, and with a node in the lowest empty place: `roomy` and `make_in` of the plain
+-- tree, whatever is noted.
+abbrev pub with_room : {W : Type 0} → Places W → Places W
+with_room c = cond (nat_lt (first_free c) (size c)) c (append c (frees 7))
+
+abbrev pub with_node : {W : Type 0} → Place W → Places W → Places W
+with_node x c = set_at (with_room c) (first_free (with_room c)) x
+
 -- the tree with another place for "/"
 abbrev pub with_root : StoredTree → ℕ → Place Stored → StoredTree
 with_root t next (flat l) = t
@@ -57,7 +65,7 @@ module _ (t : StoredTree) where
 
   abbrev pub made_in : Place Stored → List ℕ → Place Stored → Place Stored
   made_in x new (flat l) = flat l
-  made_in x new (deep m d w c) = deep m d (record { blocks = w.blocks ++ new; indirect = w.indirect; slack = w.slack }) (make_in x c)
+  made_in x new (deep m d w c) = deep m d (record { blocks = w.blocks ++ new; indirect = w.indirect; slack = w.slack }) (with_node x c)
 
   abbrev pub make_plan : Bool → List (List ℕ) → List ℕ → Place Stored → Plan
   make_plan is_dir ns n (flat l) = idle

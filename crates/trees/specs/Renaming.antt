@@ -1,6 +1,5 @@
 -- A tree whose blocks have other addresses.
-use Rattle.std.specs.Prelude.{ℕ, cond, List, map, ◌==◌}
-use Rattle.plain.specs.Trees.{Places}
+use Rattle.std.specs.Prelude.{ℕ, cond, map, ◌==◌}
 use Rattle.layout.specs.Entries.{Entry}
 use Rattle.trees.specs.Stored.{Stored, Content, file_content, indirect_content, directory_content, Block, StoredTree, map_places}
 

@@ -1,5 +1,5 @@
 -- A tree of files and directories together with the blocks that keep it.
-use Rattle.std.specs.Prelude.{ℕ, ◌+◌, ◌*◌, cond, List, [], ◌∷◌, ◌++◌, map, length, take, drop, ◌==◌, slice_index}
+use Rattle.std.specs.Prelude.{ℕ, ◌+◌, ◌*◌, cond, List, [], ◌∷◌, ◌++◌, length, take, drop, ◌==◌, slice_index}
 use Rattle.std.specs.List.{flat_map}
 use Rattle.plain.specs.Trees.{File, Dir, Leaf, free, file, Places, end, leaf, dir, Place, flat, deep, frees, slash, Tree}
 use Rattle.layout.specs.declared.entry.Mode.TheVariants as mode

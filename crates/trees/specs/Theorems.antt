@@ -1,5 +1,5 @@
 -- What is proved of trees on blocks.
-use Rattle.std.specs.Prelude.{◌≡◌, ℕ, ◌+◌, ◌*◌, ◌^◌, ◌<◌, ◌≤◌, max, List, [], ◌∷◌, ◌++◌, map, length, Ok}
+use Rattle.std.specs.Prelude.{◌≡◌, ℕ, ◌+◌, ◌*◌, ◌^◌, ◌<◌, ◌≤◌, List, ◌++◌, map, length, Ok}
 use Rattle.std.specs.List.{AllByRecursion}
 use Rattle.plain.specs.Trees as plain
 use Rattle.plain.specs.Trees.{File, Tree, end, walk, empty_tree}
@@ -8,7 +8,7 @@ use Rattle.plain.specs.Histories.{Change}
 use Rattle.plain.specs.Books.{changed}
 use Rattle.layout.specs.Numbers.{patched, fit}
 use Rattle.layout.specs.Entries.{entry_bytes, root_block}
-use Rattle.trees.specs.Stored.{Stored, nowhere, Content, pointers, Block, place_entry, StoredTree, root_place, blocks_of, count, uses, erase}
+use Rattle.trees.specs.Stored.{Stored, nowhere, Content, pointers, place_entry, StoredTree, root_place, blocks_of, count, uses, erase}
 use Rattle.trees.specs.Represents.{BlockMap, Stands, InRange, Represents}
 use Rattle.trees.specs.Decoded.{tree_at}
 use Rattle.trees.specs.Lookups.{and_then, look_up, stat_of, entry_in, read_in}
