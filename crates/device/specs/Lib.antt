@@ -4,5 +4,4 @@ pub mod Calls
 pub mod Storage
 pub mod Laws
 pub mod Vectors
-pub mod Storages
-pub mod Tables
+pub mod Soundness

@@ -3,7 +3,7 @@ ghost use Rattle.std.specs.Prelude.{◌≡◌, ◌<◌, length, is_ok, if◌then
 ghost use Rattle.device.specs.declared.interface.Kind.TheVariants.{Rewritable, WriteOnce};
 ghost use Rattle.device.specs.Calls.{state_of, Reads, Writes};
 ghost use Rattle.device.specs.Storage.{disc_size, disc_cell, disc_meaning, meaning_of, stored};
-ghost use Rattle.device.specs.Storages.{disc_sound};
+ghost use Rattle.device.specs.Soundness.{disc_sound};
 
 use crate::cell_state::CellState;
 use crate::fault::{BLOCK_LEN, DeviceFault, Place, admit};

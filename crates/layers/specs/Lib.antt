@@ -3,10 +3,4 @@ pub mod Concatenations
 pub mod Mirrors
 pub mod FakeWorms
 pub mod Edges
-pub mod Joins
-pub mod KindTests
-pub mod Worms
-pub mod Touches
-pub mod WormSizes
-pub mod Marks
-pub mod Sides
+pub mod Soundness

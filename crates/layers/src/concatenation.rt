@@ -2,7 +2,7 @@
 ghost use Rattle.std.specs.Prelude.{◌≡◌, is_ok};
 ghost use Rattle.device.specs.Calls.{Reads, Writes};
 ghost use Rattle.layers.specs.Concatenations.{meaning_of, first_after, second_after};
-ghost use Rattle.layers.specs.Joins.{joined_sound};
+ghost use Rattle.layers.specs.Soundness.{joined_sound};
 
 use device::fault::{DeviceFault, Place, admit};
 use device::interface::{Device, Kind, MOST_BLOCKS};

@@ -3,7 +3,7 @@ ghost use Rattle.std.specs.Prelude.{◌≡◌, ◌<◌, ◌≤◌, length, is_ok
 ghost use Rattle.device.specs.Refusals.{told};
 ghost use Rattle.device.specs.Calls.{Reads, Writes};
 ghost use Rattle.layers.specs.FakeWorms.{worm_size, worm_blocks, bit_byte, worth, marked, marks, or_spoiled, meaning_of, below_after};
-ghost use Rattle.layers.specs.Worms.{worm_sound};
+ghost use Rattle.layers.specs.Soundness.{worm_sound};
 
 use device::fault::{BLOCK_LEN, DeviceFault, Place, admit};
 use device::interface::{Device, Kind};

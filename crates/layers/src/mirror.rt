@@ -2,7 +2,7 @@
 ghost use Rattle.std.specs.Prelude.{◌≡◌, is_ok};
 ghost use Rattle.device.specs.Calls.{Reads, Writes};
 ghost use Rattle.layers.specs.Mirrors.{meaning_of, mirror_state, side_after, SideWrites};
-ghost use Rattle.layers.specs.Sides.{mirror_sound};
+ghost use Rattle.layers.specs.Soundness.{mirror_sound};
 
 use device::cell_state::CellState;
 use device::fault::{DeviceFault, Place, admit};

@@ -91,7 +91,7 @@ pub record Vectors : Type 0 where
   -- the super, and what is none
   pub super : super_block third ≡ super_bytes
   pub super_ends : Ends super_bytes 1 0
-  pub super_numbers_lem : super_of super_bytes ≡ third
+  pub super_read : super_of super_bytes ≡ third
   pub super_legal : legal_super super_bytes ≡ true
   pub super_with_more : legal_super (patched 24 (1 ∷ []) super_bytes) ≡ false
   pub super_with_pad : legal_super (patched 505 (1 ∷ []) super_bytes) ≡ false
@@ -119,7 +119,7 @@ pub record Vectors : Type 0 where
   pub name_with_more : legal_entry 65536 259 (patched 27 (1 ∷ []) notes_bytes) ≡ false
   pub reserved_used : legal_entry 65536 259 (patched 31 (1 ∷ []) notes_bytes) ≡ false
   pub no_such_mode : legal_entry 65536 259 (patched 28 (bytes16 1) notes_bytes) ≡ false
-  pub legal_directory_lem : legal_entry 65536 259 (entry_bytes old) ≡ true
+  pub legal_directory : legal_entry 65536 259 (entry_bytes old) ≡ true
   pub directory_too_large : legal_entry 65536 259 (patched 40 (bytes32 3528) (entry_bytes old)) ≡ false
   pub directory_not_full : legal_entry 65536 259 (patched 28 (bytes16 0xC000) notes_bytes) ≡ false
   pub empty_with_more : legal_entry 65536 259 (patched 71 (1 ∷ []) (replicate 72 0)) ≡ false

@@ -2,7 +2,8 @@ use Rattle.std.proofs.Common.{◌≡◌, ◌+◌, ◌-◌, ◌*◌, ◌<◌, tak
 use Rattle.device.specs.Calls.{state_of, read_state, contents}
 use Rattle.device.specs.Storage.{disc_meaning, disc_size, place_on}
 use Rattle.device.proofs.Calls.{admitted, read_barred, read_refused, read_in, readable_held}
-use Rattle.device.specs.Storages.{disc_size_lem, disc_cell_lem, disc_held}
+use Rattle.device.specs.Soundness.{disc_size_lem, disc_cell_lem}
+use Rattle.device.proofs.Storages.{disc_held}
 use Rattle.device.proofs.disc.read_storage.Goals as goal
 
 pub returns-in_err-admit : goal.returns-in_err-admit

@@ -1,5 +1,5 @@
 use Rattle.std.proofs.Common.{arith}
-use Rattle.device.specs.Storages.{store_is}
+use Rattle.device.proofs.Storages.{store_is}
 use Rattle.device.proofs.disc.store.Goals as goal
 
 pub returns : goal.returns

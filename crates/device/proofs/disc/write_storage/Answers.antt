@@ -2,7 +2,8 @@ use Rattle.std.proofs.Common.{◌<◌, sym, ap, ◌∙◌}
 use Rattle.device.specs.Calls.{state_of, write_state}
 use Rattle.device.specs.Storage.{disc_meaning, disc_size, place_on}
 use Rattle.device.proofs.Calls.{admitted, passed, write_barred, write_refused, write_in}
-use Rattle.device.specs.Storages.{disc_size_lem, disc_cell_lem, disc_put}
+use Rattle.device.specs.Soundness.{disc_size_lem, disc_cell_lem}
+use Rattle.device.proofs.Storages.{disc_put}
 use Rattle.device.proofs.disc.write_storage.Goals as goal
 
 pub returns-in_err-admit : goal.returns-in_err-admit

@@ -1,4 +1,4 @@
-use Rattle.layers.specs.Marks.{mask_test}
+use Rattle.layers.proofs.Marks.{mask_test}
 use Rattle.layers.proofs.fake_worm.is_marked.Goals as goal
 
 pub returns : goal.returns

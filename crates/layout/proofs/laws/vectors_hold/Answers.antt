@@ -33,7 +33,7 @@ returns c = record {
   file_body = refl;
   super = refl;
   super_ends = record { pad = refl; tagged = refl; owned = refl };
-  super_numbers_lem = refl;
+  super_read = refl;
   super_legal = refl;
   super_with_more = refl;
   super_with_pad = refl;
@@ -58,7 +58,7 @@ returns c = record {
   name_with_more = refl;
   reserved_used = refl;
   no_such_mode = refl;
-  legal_directory_lem = refl;
+  legal_directory = refl;
   directory_too_large = refl;
   directory_not_full = refl;
   empty_with_more = refl;

@@ -2,7 +2,7 @@ use Rattle.std.proofs.Common.{◌<◌, ◌≤◌, refl, arith}
 use Rattle.device.specs.Meaning.{size}
 use Rattle.device.proofs.Calls.{admitted}
 use Rattle.layers.specs.Concatenations.{meaning_of}
-use Rattle.layers.specs.Joins.{first_read, second_read}
+use Rattle.layers.proofs.Joins.{first_read, second_read}
 use Rattle.layers.proofs.concatenation.ConcatenationDevice.read.Goals as goal
 
 pub returns-then-block-split : goal.returns-then-block-split

@@ -1,6 +1,6 @@
 use Rattle.std.proofs.Common.{◌≡◌, true, arith, rules}
 use Rattle.layers.specs.Concatenations.{joins}
-use Rattle.layers.specs.Joins.{joined_size}
+use Rattle.layers.specs.Soundness.{joined_size}
 use Rattle.layers.proofs.concatenation.ConcatenationDevice.size.Goals as goal
 
 pub returns-then-total-le-MOST_BLOCKS : goal.returns-then-total-le-MOST_BLOCKS

@@ -2,7 +2,7 @@ use Rattle.std.proofs.Common.{◌<◌, ◌≤◌, arith}
 use Rattle.device.specs.Meaning.{size}
 use Rattle.device.proofs.Calls.{admitted}
 use Rattle.layers.specs.Concatenations.{meaning_of}
-use Rattle.layers.specs.Joins.{first_write, first_after_lem, second_write, second_after_lem}
+use Rattle.layers.proofs.Joins.{first_write, first_after_lem, second_write, second_after_lem}
 use Rattle.layers.proofs.concatenation.ConcatenationDevice.write.Goals as goal
 
 pub returns-then-block-split : goal.returns-then-block-split

@@ -2,7 +2,8 @@ use Rattle.std.proofs.Common.{◌≡◌, length, sym, refl, ap, ◌∙◌, arith
 use Rattle.device.specs.Refusals.{told}
 use Rattle.device.proofs.Calls.{admitted}
 use Rattle.layers.specs.FakeWorms.{meaning_of, bit_block, or_spoiled}
-use Rattle.layers.specs.Worms.{within, worm_bounded, unread, was_read, worm_read_spoiled, worm_read_held, worm_read_blank}
+use Rattle.layers.specs.Soundness.{within, worm_bounded}
+use Rattle.layers.proofs.Worms.{unread, was_read, worm_read_spoiled, worm_read_held, worm_read_blank}
 use Rattle.layers.proofs.fake_worm.FakeWormDevice.read.Goals as goal
 
 pub overflow_add-at : goal.overflow_add-at

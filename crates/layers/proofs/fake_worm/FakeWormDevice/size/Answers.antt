@@ -1,5 +1,5 @@
 use Rattle.std.proofs.Common.{sym, ◌∙◌}
-use Rattle.layers.specs.Worms.{worm_size_lem}
+use Rattle.layers.specs.Soundness.{worm_size_lem}
 use Rattle.layers.proofs.fake_worm.FakeWormDevice.size.Goals as goal
 
 pub returns : goal.returns

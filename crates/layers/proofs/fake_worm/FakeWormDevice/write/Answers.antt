@@ -2,8 +2,9 @@ use Rattle.std.proofs.Common.{◌≡◌, length, sym, refl, ap, ◌∙◌, arith
 use Rattle.device.specs.Refusals.{told}
 use Rattle.device.proofs.Calls.{admitted, passed}
 use Rattle.layers.specs.FakeWorms.{meaning_of, bit_block, or_spoiled}
-use Rattle.layers.specs.Touches.{accepted}
-use Rattle.layers.specs.Worms.{held_is, within, worm_bounded, unread, was_read, unwritten, was_written, worm_write_spoiled, worm_write_held, worm_stored}
+use Rattle.layers.proofs.Touches.{accepted}
+use Rattle.layers.specs.Soundness.{within, worm_bounded}
+use Rattle.layers.proofs.Worms.{held_is, unread, was_read, unwritten, was_written, worm_write_spoiled, worm_write_held, worm_stored}
 use Rattle.layers.proofs.fake_worm.FakeWormDevice.write.Goals as goal
 
 pub overflow_add-at : goal.overflow_add-at

@@ -5,7 +5,7 @@ use Rattle.device.specs.contracts.cell_state.CellState.{the_type}
 use Rattle.device.specs.declared.cell_state.CellState.TheVariants.{Held}
 use Rattle.device.proofs.Calls.{admitted}
 use Rattle.layers.specs.Mirrors.{meaning_of}
-use Rattle.layers.specs.Sides.{mirror_read_first, mirror_read_second}
+use Rattle.layers.proofs.Sides.{mirror_read_first, mirror_read_second}
 use Rattle.layers.proofs.mirror.MirrorDevice.read.Goals as goal
 
 pub returns-then-eq : goal.returns-then-eq

@@ -1,5 +1,5 @@
 use Rattle.std.proofs.Common.{rules}
-use Rattle.layers.specs.Sides.{mirror_size_lem}
+use Rattle.layers.specs.Soundness.{mirror_size_lem}
 use Rattle.layers.proofs.mirror.MirrorDevice.size.Goals as goal
 
 pub returns-then-eq : goal.returns-then-eq

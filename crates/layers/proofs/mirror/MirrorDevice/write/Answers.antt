@@ -3,8 +3,8 @@ use Rattle.device.specs.Refusals.{Outcome}
 use Rattle.device.specs.Calls.{write_state}
 use Rattle.device.proofs.Calls.{admitted, passed}
 use Rattle.layers.specs.Mirrors.{meaning_of, mirror_state}
-use Rattle.layers.specs.Touches.{never}
-use Rattle.layers.specs.Sides.{mirror_write_refused, first_written, second_written, mirror_written}
+use Rattle.layers.proofs.Touches.{never}
+use Rattle.layers.proofs.Sides.{mirror_write_refused, first_written, second_written, mirror_written}
 use Rattle.layers.proofs.mirror.MirrorDevice.write.Goals as goal
 
 pub returns-in_err-writable : goal.returns-in_err-writable

@@ -1,7 +1,6 @@
 -- What two devices side by side have of each.
-use Rattle.std.specs.Prelude.{◌≡◌, ℕ, ◌<◌, ◌≤◌, min, Bool, true, false, cond, List, length, IsErrAnd, Ok, Err, ◌≢◌, refl}
+use Rattle.std.specs.Prelude.{◌≡◌, ℕ, ◌<◌, true, false, cond, List, length, IsErrAnd, Ok, Err, ◌≢◌, refl}
 use Rattle.std.proofs.Common.{sym, ap, ◌∙◌, subst, arith}
-use Rattle.std.proofs.lemmas.List.FromFn.{length-map-range_with_len}
 use Rattle.device.specs.declared.fault.Place.{Place}
 use Rattle.device.specs.declared.fault.DeviceFault.{DeviceFault}
 use Rattle.device.specs.declared.interface.Kind.{Kind}
@@ -9,14 +8,13 @@ use Rattle.device.specs.declared.interface.Kind.TheVariants.{Rewritable, WriteOn
 use Rattle.device.specs.declared.cell_state.CellState.{CellState}
 use Rattle.device.specs.declared.cell_state.CellState.TheVariants.{Blank, Held, Spoiled}
 use Rattle.device.specs.Refusals.{Answer, Outcome, shown, told}
-use Rattle.device.specs.Meaning.{Cell, blank, held, spoiled, Meaning, size, cell, put, Sound, Legal}
+use Rattle.device.specs.Meaning.{Cell, blank, held, spoiled, Meaning, size, cell, put}
 use Rattle.device.specs.Calls.{state_of, state_told, read_state, write_state, contents, Reads, Writes}
-use Rattle.device.specs.Tables.{table_at, table_set}
+use Rattle.device.proofs.Tables.{table_set}
 use Rattle.device.proofs.Calls.{read_out, read_in, read_state_lem, write_out, write_in, write_refused}
-use Rattle.layers.specs.Kinds.{same_kind}
 use Rattle.layers.specs.Mirrors.{mirror_cell, mirror_state, mirror_size, mirror_at, mirror, intact, side_after, SideWrites}
-use Rattle.layers.specs.KindTests.{same_kind_lem}
-use Rattle.layers.specs.Touches.{touched, accepted}
+use Rattle.layers.specs.Soundness.{within_both, mirror_size_lem, mirror_cell_lem}
+use Rattle.layers.proofs.Touches.{touched, accepted}
 
 -- of two cells
 
@@ -28,15 +26,6 @@ merged blank spoiled = refl
 merged spoiled (held bytes) = refl
 merged spoiled blank = refl
 merged spoiled spoiled = refl
-
-legal_merged : (k : Kind) (x y : Cell) → Legal k x → Legal k y → Legal k (mirror_cell x y)
-legal_merged k (held bytes) y p q = p
-legal_merged k blank (held bytes) p q = q
-legal_merged k blank blank p q = p
-legal_merged k blank spoiled p q = p
-legal_merged k spoiled (held bytes) p q = q
-legal_merged k spoiled blank p q = q
-legal_merged k spoiled spoiled p q = tt
 
 -- a read that the first side accepts, and one that it refuses
 first_contents : (x y : Cell) (buf : List ℕ) → state_of x ≡ Held → (state_of (mirror_cell x y) ≡ Held) × (contents x buf ≡ contents (mirror_cell x y) buf)
@@ -94,40 +83,15 @@ is_lost spoiled e = refl
 -- of two devices
 
 module _ (l : ℕ) (a b : Meaning) where
-  pub mirror_size_lem : size (mirror l a b) ≡ mirror_size a b
-  mirror_size_lem = length-map-range_with_len (mirror_at a b) 0 (mirror_size a b)
-
-  within_both : (i : ℕ) → i < size (mirror l a b) → (a.kind ≡ b.kind) × (i < size a) × (i < size b)
-  within_both i h = by (same_kind a.kind b.kind) (same_kind_lem a.kind b.kind) (rw mirror_size_lem at h)
-    where
-      by : (t : Bool) → (t ≡ true → a.kind ≡ b.kind) → i < cond t (min (size a) (size b)) 0 → (a.kind ≡ b.kind) × (i < size a) × (i < size b)
-      by true same h = (same refl, omega arith, omega arith)
-      by false same h = absurd (omega arith)
-
-  mirror_cell_lem : (i : ℕ) → i < size (mirror l a b) → cell (mirror l a b) i ≡ mirror_cell (cell a i) (cell b i)
-  mirror_cell_lem i h = table_at (mirror_at a b) (mirror_size a b) i spoiled (rw mirror_size_lem at h)
-
-  pub mirror_sound : Sound a → Sound b → Sound (mirror l a b)
-  mirror_sound p q = record {
-    bounded = rw mirror_size_lem (small (same_kind a.kind b.kind));
-    legal = λ i h.
-        let w = within_both i h in
-        rw (mirror_cell_lem i h) (legal_merged a.kind (cell a i) (cell b i) (p.legal i w.1) (subst (λ k. Legal k (cell b i)) (sym w.0) (q.legal i w.2)));
-  }
-    where
-      small : (t : Bool) → cond t (min (size a) (size b)) 0 ≤ 65536
-      small true = omega (arith, p.bounded)
-      small false = omega arith
-
   module _ (i : ℕ) (buf : List ℕ) (whole : length buf ≡ 512) (within : i < size (mirror l a b)) where
     state_here : state_of (cell (mirror l a b) i) ≡ mirror_state (state_of (cell a i)) (state_of (cell b i))
-    state_here = ap state_of (mirror_cell_lem i within) ∙ merged (cell a i) (cell b i)
+    state_here = ap state_of (mirror_cell_lem l a b i within) ∙ merged (cell a i) (cell b i)
 
     -- the first side accepts the read, and so the second is not read
     pub mirror_read_first : (r : Answer) {buf' : List ℕ} {a' : Meaning} → Reads a i buf r buf' a' → state_told (told r) ≡ Held → Reads (mirror l a b) i buf (Ok tt) buf' (mirror l a' b)
     mirror_read_first r h s =
-        let o = read_out a i buf r whole (within_both i within).1 h in
-        let c = mirror_cell_lem i within in
+        let o = read_out a i buf r whole (within_both l a b i within).1 h in
+        let c = mirror_cell_lem l a b i within in
         let f = first_contents (cell a i) (cell b i) buf (sym (read_state_lem a i buf r whole h) ∙ s) in
         read_in (mirror l a b) i buf (Ok tt) whole within (ap (read_state (a.place i)) (sym (ap state_of c ∙ f.0))) (o.1 ∙ f.1 ∙ ap (λ x. contents x buf) (sym c))
         (ap (λ x. mirror l x b) h.same)
@@ -135,12 +99,12 @@ module _ (l : ℕ) (a b : Meaning) where
     pub mirror_read_second : (r q u : Answer) {buf₁ buf₂ : List ℕ} {a' b' : Meaning} → Reads a i buf r buf₁ a' → Reads b i buf₁ q buf₂ b' →
         (state_told (told r) ≢ Held) → told u ≡ read_state (a.place i) (mirror_state (state_told (told r)) (state_told (told q))) → Reads (mirror l a b) i buf u buf₂ (mirror l a' b')
     mirror_read_second r q u {buf₁} {buf₂} {a'} {b'} h k ne is =
-        let w = within_both i within in
+        let w = within_both l a b i within in
         let s = read_state_lem a i buf r whole h in
         let f = second_contents (cell a i) (cell b i) buf (λ e. ne (s ∙ e)) in
         let kept : buf₁ ≡ buf = (read_out a i buf r whole w.1 h).1 ∙ f.0 in
         let k' : Reads b i buf q buf₂ b' = subst (λ x. Reads b i x q buf₂ b') kept k in
-        let c = mirror_cell_lem i within in
+        let c = mirror_cell_lem l a b i within in
         read_in (mirror l a b) i buf u whole within
         (is ∙ ap (read_state (a.place i)) (ap (λ x. mirror_state x (state_told (told q))) s ∙ ap (mirror_state (state_of (cell a i))) (read_state_lem b i buf q whole k') ∙ sym state_here))
         ((read_out b i buf q whole w.2 k').1 ∙ f.1 ∙ ap (λ x. contents x buf) (sym c))
@@ -173,16 +137,16 @@ module _ (l : ℕ) (a b : Meaning) where
             by Spoiled is_v takes h = let x = is_lost (cell m i) (sym is_v) in (h.0, h.1 ∙ simp x)
 
         pub first_written : (r : Answer) {a' : Meaning} → SideWrites s a i buf r a' → (r ≡ Ok tt) × (a' ≡ side_after true a i buf)
-        first_written r h = side_written a s r (within_both i within).1 is_s (first_takes a.kind (a.place i) (a.place i) s t ok) h
+        first_written r h = side_written a s r (within_both l a b i within).1 is_s (first_takes a.kind (a.place i) (a.place i) s t ok) h
 
         pub second_written : (r : Answer) {b' : Meaning} → SideWrites t b i buf r b' → (r ≡ Ok tt) × (b' ≡ side_after true b i buf)
         second_written r h =
-            let w = within_both i within in
+            let w = within_both l a b i within in
             side_written b t r w.2 is_t (subst (λ k. (t ≢ Spoiled) → write_state k (b.place i) t ≡ Ok tt) w.0 (second_takes a.kind (a.place i) (b.place i) s t ok)) h
 
         mirror_put : mirror l (side_after true a i buf) (side_after true b i buf) ≡ put (mirror l a b) i buf
         mirror_put =
-            let w = within_both i within in
+            let w = within_both l a b i within in
             let p = touched a i buf w.1 (intact (cell a i)) in
             let q = touched b i buf w.2 (intact (cell b i)) in
             let a' = side_after true a i buf in
@@ -190,7 +154,7 @@ module _ (l : ℕ) (a b : Meaning) where
             let sizes : mirror_size a' b' ≡ mirror_size a b = simp (p.kind, q.kind, p.sized, q.sized) in
             let e = stored_cell a.kind (a.place i) (cell a i) (cell b i) buf (ok ∙ ap (write_state a.kind (a.place i)) (state_is ∙ state_here)) in
             let here : mirror_at a' b' i ≡ held buf = simp (p.here, q.here) e in
-            let cs = table_set (mirror_at a b) (mirror_at a' b') (mirror_size a' b') (mirror_size a b) i (held buf) sizes (rw mirror_size_lem at within) here
+            let cs = table_set (mirror_at a b) (mirror_at a' b') (mirror_size a' b') (mirror_size a b) i (held buf) sizes (rw (mirror_size_lem l a b) at within) here
             (λ k _ ne. simp (p.there k ne, q.there k ne)) in
             ap (λ k. record { label = l; kind = k; cells = (mirror l a' b').cells; place = a'.place }) p.kind
             ∙ ap (λ c. record { label = l; kind = a.kind; cells = c; place = a'.place }) cs

@@ -1,13 +1,11 @@
 -- What a fake worm has of the device below it.
-use Rattle.std.specs.Prelude.{◌≡◌, ℕ, ◌+◌, ◌-◌, ◌/◌, ◌<◌, ◌≤◌, Bool, true, false, cond, List, [], length, is_ok, IsErrAnd, Ok, Err, ◌≢◌, refl}
+use Rattle.std.specs.Prelude.{◌≡◌, ℕ, ◌+◌, ◌/◌, ◌<◌, Bool, true, false, cond, List, [], length, is_ok, IsErrAnd, Ok, Err, ◌≢◌, refl}
 use Rattle.std.proofs.Common.{sym, ap, ◌∙◌, subst, ⊎_elim, arith}
 use Rattle.std.proofs.lemmas.List.{length-set}
 use Rattle.std.proofs.lemmas.Bool.{cases_eq}
-use Rattle.std.proofs.lemmas.List.FromFn.{length-map-range_with_len}
 use Rattle.device.specs.declared.fault.Place.{Place}
 use Rattle.device.specs.declared.fault.DeviceFault.{DeviceFault}
 use Rattle.device.specs.declared.fault.DeviceFault.TheVariants as Fault
-use Rattle.device.specs.declared.interface.Kind.{Kind}
 use Rattle.device.specs.declared.interface.Kind.TheVariants.{Rewritable, WriteOnce}
 use Rattle.device.specs.declared.cell_state.CellState.{CellState}
 use Rattle.device.specs.declared.cell_state.CellState.TheVariants.{Blank, Held, Spoiled}
@@ -15,64 +13,13 @@ use Rattle.device.specs.Refusals.{Refusal, Answer, Outcome, shown, told, refused
 use Rattle.device.specs.Meaning.{Cell, blank, held, spoiled, Meaning, size, cell, put, Sound, Legal}
 use Rattle.device.specs.Calls.{state_of, read_state, write_state, contents, Reads, Writes}
 use Rattle.device.specs.Storage.{place_on}
-use Rattle.device.specs.Tables.{table_at, table_set}
+use Rattle.device.proofs.Tables.{table_set}
 use Rattle.device.proofs.Calls.{read_out, read_in, read_refused, write_out, write_in, write_refused}
 use Rattle.layers.specs.Kinds.{same_kind}
 use Rattle.layers.specs.FakeWorms.{worm_size, worm_blocks, bit_block, marked, marks, worm_cell, worm_at, fake_worm, below_after, or_spoiled}
-use Rattle.layers.specs.Touches.{Touched, touched, accepted}
-use Rattle.layers.specs.WormSizes.{worm_size_is}
-use Rattle.layers.specs.Marks.{marks_here, marks_there}
-
--- of a cell and that of its bits
-
-legal_worm : (b : ℕ) (x y : Cell) → Legal Rewritable x → Legal WriteOnce (worm_cell b x y)
-legal_worm b spoiled y p = tt
-legal_worm b blank y p = tt
-legal_worm b (held bytes) spoiled p = tt
-legal_worm b (held bytes) blank p = tt
-legal_worm b (held bytes) (held bits) p = by (marked bits b)
-  where
-    by : (t : Bool) → Legal WriteOnce (cond t (held bytes) blank)
-    by true = p
-    by false = refl
-
-module _ (l : ℕ) (n : Meaning) where
-  pub worm_size_lem : size (fake_worm l n) ≡ worm_blocks n
-  worm_size_lem = length-map-range_with_len (worm_at n) 0 (worm_blocks n)
-
-  worm_cell_lem : (b : ℕ) → b < size (fake_worm l n) → cell (fake_worm l n) b ≡ worm_at n b
-  worm_cell_lem b h = table_at (worm_at n) (worm_blocks n) b spoiled (rw worm_size_lem at h)
-
--- where there is a block, the device below is rewritable, and has the block and, after all the blocks, that of its bit
-pub record Within (n : Meaning) (b : ℕ) : Type 0 where
-  pub kind : n.kind ≡ Rewritable
-  pub block : b < size n
-  pub bits : bit_block n b < size n
-  pub before : b < worm_blocks n
-
-pub within : (l : ℕ) (n : Meaning) (b : ℕ) → b < size (fake_worm l n) → Within n b
-within l n b h = by n.kind refl (rw worm_size_lem at h)
-  where
-    by : (k : Kind) → n.kind ≡ k → b < worm_blocks n → Within n b
-    by Rewritable e h =
-        let s : worm_blocks n ≡ size n - (size n + 4096) / 4097 = simp (e, worm_size_is) in
-        record { kind = e; block = omega arith; bits = omega arith; before = h }
-    by WriteOnce e h = let s : worm_blocks n ≡ 0 = simp e in absurd (omega arith)
-
-pub worm_bounded : (n : Meaning) → Sound n → worm_blocks n ≤ 65536
-worm_bounded n p = by n.kind
-  where
-    by : (k : Kind) → cond (same_kind k Rewritable) (worm_size (size n)) 0 ≤ 65536
-    by Rewritable = rw worm_size_is (omega (arith, p.bounded))
-    by WriteOnce = omega arith
-
-pub worm_sound : (l : ℕ) (n : Meaning) → Sound n → Sound (fake_worm l n)
-worm_sound l n p = record {
-  bounded = rw (worm_size_lem l n) (worm_bounded n p);
-  legal = λ b h.
-      let w = within l n b h in
-      rw (worm_cell_lem l n b h) (legal_worm b (cell n b) (cell n (bit_block n b)) (subst (λ k. Legal k (cell n b)) w.kind (p.legal b w.block)));
-}
+use Rattle.layers.proofs.Touches.{Touched, touched, accepted}
+use Rattle.layers.specs.Soundness.{worm_cell_lem, Within, within}
+use Rattle.layers.proofs.Marks.{marks_here, marks_there}
 
 -- the cell with this bit over a cell below
 abbrev bit_cell : Bool → Cell → Cell

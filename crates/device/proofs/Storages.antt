@@ -5,39 +5,15 @@ use borrow.Rule.Slice.PartMut.{put_mid}
 use Rattle.std.proofs.lemmas.List.{length-take, length-take-le, length-drop, length-append, take_more_set, drop-set-lt, append_assoc, drop_at, drop-drop, drop-take, take_at, get_or-take, get_or-drop}
 use Rattle.std.proofs.lemmas.Slice.{take-put_mid_below, drop-put_mid}
 use Rattle.std.proofs.lemmas.Bool.{cases_order}
-use Rattle.std.proofs.lemmas.List.FromFn.{length-map-range_with_len}
-use Rattle.device.specs.Tables.{table_at, table_set}
+use Rattle.device.proofs.Tables.{table_set}
 use Rattle.device.specs.declared.interface.Kind.{Kind}
 use Rattle.device.specs.declared.interface.Kind.TheVariants.{Rewritable, WriteOnce}
 use Rattle.device.specs.declared.cell_state.CellState.TheVariants.{Held}
-use Rattle.device.specs.Meaning.{held, spoiled, size, cell, put, Sound, Legal}
+use Rattle.device.specs.Meaning.{held, spoiled, put}
 use Rattle.device.specs.Calls.{state_of}
 use Rattle.device.specs.Storage.{disc_size, zero_cell, cell_from, disc_cell, disc_meaning, place_on, stored}
 
-legal_from : (k : Kind) (s : ℕ) (bytes : List ℕ) → length bytes ≡ 512 → Legal k (cell_from k s bytes)
-legal_from k s bytes whole = by (s == 1) (s == 0) k
-  where
-    by : (one nought : Bool) (k : Kind) → Legal k (cond one (held bytes) (cond nought (zero_cell k) spoiled))
-    by true nought k = whole
-    by false true Rewritable = tt
-    by false true WriteOnce = refl
-    by false false k = tt
-
 module _ (l : ℕ) (k : Kind) (storage : List ℕ) where
-  pub disc_size_lem : size (disc_meaning l k storage) ≡ disc_size storage
-  disc_size_lem = length-map-range_with_len (disc_cell k storage) 0 (disc_size storage)
-
-  pub disc_cell_lem : (b : ℕ) → b < disc_size storage → cell (disc_meaning l k storage) b ≡ disc_cell k storage b
-  disc_cell_lem b h = table_at (disc_cell k storage) (disc_size storage) b spoiled h
-
-  pub disc_sound : Sound (disc_meaning l k storage)
-  disc_sound = record {
-    bounded = rw disc_size_lem (omega arith);
-    legal = λ b h.
-        let h' : b < disc_size storage = rw disc_size_lem at h in
-        rw (disc_cell_lem b h') (legal_from k (slice_index storage (b * 513)) (take 512 (drop (b * 513 + 1) storage)) (simp (length-take, length-drop) (omega arith)));
-  }
-
   -- a block that is held has the bytes after its state byte
   pub disc_held : (b : ℕ) → state_of (disc_cell k storage b) ≡ Held → disc_cell k storage b ≡ held (take 512 (drop (b * 513 + 1) storage))
   disc_held b e = by (slice_index storage (b * 513) == 1) (slice_index storage (b * 513) == 0) k e

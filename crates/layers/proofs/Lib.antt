@@ -1,0 +1,5 @@
+pub mod Touches
+pub mod Joins
+pub mod Sides
+pub mod Marks
+pub mod Worms
