@@ -121,13 +121,13 @@ formed_inside : (path : List ℕ) (ns : List (List ℕ)) (n : List ℕ) (f : Pla
     path_of path ≡ Some (ns ++ n ∷ []) → u ≡ inside ns f next t → Tidy u → WellFormed t →
     ((c : Plain) → levels (f c) ≤ max 1 (levels c)) → t.next_qid ≤ next → next < 2 ^ 32 → ((c : Plain) → Numbered next c → Numbered next (f c)) →
     WellFormed u
-formed_inside path ns n f next t u path_of_lem is tidy w grows le few numbers =
+formed_inside path ns n f next t u names_are is tidy w grows le few numbers =
     subst WellFormed (sym is)
     (record {
       tidy = subst Tidy is tidy;
       levels =
           let h = w.levels in
-          let short = (path_is path (ns ++ n ∷ []) path_of_lem).few in
+          let short = (path_is path (ns ++ n ∷ []) names_are).few in
           omega (arith, levels_modify f grows ns t.places, h, short, length-append ns (n ∷ []));
       numbered = numbered_modify next f numbers ns t.places (numbered_more t.next_qid next le t.places w.numbered);
       root = w.root;

@@ -30,7 +30,6 @@ returns c =
     let within : a.block < disc_size a.storage.now = rw disc_size_lem at ok.1 in
     let at = disc_cell_lem a.label a.kind a.storage.now a.block within in
     let found = disc_held a.label a.kind a.storage.now a.block (sym c.state_in.ensures ∙ readable_held _ _ c.in_ok-readable.ensures) in
-    let n : a.block * 513 + 513 - (a.block * 513 + 1) ≡ 512 = omega arith in
     read_in (disc_meaning a.label a.kind a.storage.now) a.block a.buf.now _ ok.0 ok.1
     (c.in_ok-readable.ensures ∙ ap (read_state (place_on a.label a.block)) (c.state_in.ensures ∙ ap state_of (sym at)))
-    (c.copy_from_slice.ensures.after ∙ ap (λ n. take n (drop (a.block * 513 + 1) a.storage.now)) n ∙ ap (λ x. contents x a.buf.now) (sym (at ∙ found))) refl
+    (c.copy_from_slice.ensures.after ∙ ap (λ n. take n (drop (a.block * 513 + 1) a.storage.now)) {y = 512} (omega arith) ∙ ap (λ x. contents x a.buf.now) (sym (at ∙ found))) refl

@@ -1,10 +1,12 @@
-use Rattle.std.proofs.Common.{rules, sym, ap, refl, ◌∙◌}
+use Rattle.std.proofs.Common.{rules, ◌≡◌, sym, ap, refl, ◌∙◌}
 use Rattle.std.proofs.lemmas.Bool.{false≢true}
 use denote.Enum.Bare.{sameb, same_true}
 use Rattle.device.specs.contracts.cell_state.CellState.{the_type}
 use Rattle.device.specs.declared.cell_state.CellState.TheVariants.{Held}
 use Rattle.device.proofs.Calls.{admitted}
-use Rattle.layers.specs.Mirrors.{meaning_of}
+use Rattle.device.specs.Refusals.{told}
+use Rattle.device.specs.Calls.{state_told, read_state}
+use Rattle.layers.specs.Mirrors.{meaning_of, mirror_state}
 use Rattle.layers.proofs.Sides.{mirror_read_first, mirror_read_second}
 use Rattle.layers.proofs.mirror.MirrorDevice.read.Goals as goal
 
@@ -26,10 +28,12 @@ returns g c =
     let a = g.A.Device.meaning s.first in
     let b = g.B.Device.meaning s.second in
     let ok = admitted (meaning_of g.A.Device g.B.Device s) _ c.args.block _ c.size.ensures c.in_ok-admit.ensures in
+    let state : c.merge.result ≡ mirror_state (state_told (told c.read.result)) (state_told (told c.read-2.result)) =
+    c.merge.ensures ∙ ap (λ x. mirror_state x c.after_read-second.result) c.after_read-first.ensures ∙ ap (mirror_state (state_told (told c.read.result))) c.after_read-second.ensures in
     record {
       cells = mirror_read_second s.label a b c.args.block c.args.buf.now ok.0 ok.1 c.read.result c.read-2.result c.readable.result
           c.read.ensures c.read-2.ensures (λ e. false≢true (c.if-eq.ensures ∙ ap (λ x. sameb the_type x Held) (c.after_read-first.ensures ∙ e)))
-          (c.readable.ensures ∙ rw (c.place-place.ensures, c.merge.ensures, c.after_read-first.ensures, c.after_read-second.ensures));
+          (c.readable.ensures ∙ ap (λ p. read_state p c.merge.result) c.place-place.ensures ∙ ap (read_state (a.place c.args.block)) state);
       first = c.read.ensures.same;
       second = c.read-2.ensures.same;
     }
