@@ -1,5 +1,5 @@
 -- What a disc's storage means, before and after a block is stored.
-use Rattle.std.specs.Prelude.{◌≡◌, ℕ, ◌+◌, ◌*◌, ◌/◌, ◌<◌, ◌≤◌, min, Bool, true, false, cond, List, ◌∷◌, ◌++◌, length, take, drop, ◌==◌, ◌≢◌, slice_index, slice_index_or, slice_set, refl}
+use Rattle.std.specs.Prelude.{◌≡◌, ℕ, ◌+◌, ◌*◌, ◌/◌, ◌<◌, ◌≤◌, min, Bool, true, false, cond, List, ◌∷◌, ◌++◌, length, take, drop, ◌==◌, ◌≢◌, slice_index, slice_index_or, slice_set, Ok, refl}
 use Rattle.std.proofs.Common.{sym, ap, ◌∙◌, ⊎_elim, arith}
 use borrow.Rule.Slice.PartMut.{put_mid}
 use Rattle.std.proofs.lemmas.List.{length-take, length-take-le, length-drop, length-append, take_more_set, drop-set-lt, append_assoc, drop_at, drop-drop, drop-take, take_at, get_or-take, get_or-drop}
@@ -9,8 +9,11 @@ use Rattle.device.proofs.Tables.{table_set}
 use Rattle.device.specs.declared.interface.Kind.{Kind}
 use Rattle.device.specs.declared.interface.Kind.TheVariants.{Rewritable, WriteOnce}
 use Rattle.device.specs.declared.cell_state.CellState.TheVariants.{Held}
-use Rattle.device.specs.Meaning.{held, spoiled, put}
+use Rattle.device.specs.Refusals.{Outcome, admission}
+use Rattle.device.specs.Meaning.{held, spoiled, size, cell, put}
 use Rattle.device.specs.Calls.{state_of}
+use Rattle.device.specs.Soundness.{disc_size_lem, disc_cell_lem}
+use Rattle.device.proofs.Calls.{admitted}
 use Rattle.device.specs.Storage.{disc_size, zero_cell, cell_from, disc_cell, disc_meaning, place_on, stored}
 
 module _ (l : ℕ) (k : Kind) (storage : List ℕ) where
@@ -24,6 +27,21 @@ module _ (l : ℕ) (k : Kind) (storage : List ℕ) where
       by false true Rewritable e = cc
       by false true WriteOnce e = cc
       by false false k e = cc
+
+-- block b of a disc and a buffer of n bytes that are admitted
+pub record Admitted (l : ℕ) (k : Kind) (storage : List ℕ) (b n : ℕ) : Type 0 where
+  pub whole : n ≡ 512
+  pub within : b < size (disc_meaning l k storage)
+  -- the same, of the storage
+  pub stored : b < disc_size storage
+  pub cell : disc_cell k storage b ≡ cell (disc_meaning l k storage) b
+
+pub admitted_on : (l : ℕ) (k : Kind) (storage : List ℕ) (s b n : ℕ) → s ≡ size (disc_meaning l k storage) → ◌≡◌ {A = Outcome} (Ok tt) (admission l s b n) →
+    Admitted l k storage b n
+admitted_on l k storage s b n sized is =
+    let ok = admitted (disc_meaning l k storage) s b n sized is in
+    let stored : b < disc_size storage = rw disc_size_lem at ok.1 in
+    record { whole = ok.0; within = ok.1; stored = stored; cell = sym (disc_cell_lem l k storage b stored) }
 
 -- the 513 bytes of a block, from which its cell is made
 abbrev chunk : List ℕ → ℕ → List ℕ

@@ -4,12 +4,20 @@ use Rattle.std.specs.List.{range_with_len}
 use Rattle.device.specs.declared.interface.Kind.{Kind}
 use Rattle.device.specs.declared.interface.Kind.TheVariants.{Rewritable, WriteOnce}
 use Rattle.device.specs.declared.fault.Place.{Place}
+use Rattle.device.specs.declared.cell_state.CellState.{CellState}
+use Rattle.device.specs.declared.cell_state.CellState.TheVariants.{Blank, Held, Spoiled}
 use Rattle.device.specs.declared.disc.Disc.{Disc}
 use Rattle.device.specs.Meaning.{Cell, blank, held, spoiled, Meaning}
 
 -- how many whole blocks there are; bytes left over at the end mean nothing
 abbrev pub disc_size : List ℕ → ℕ
 disc_size storage = min (length storage / 513) 65536
+
+-- a state byte that stands for the state; a spoiled block may have any other, and on a rewritable disc 0
+abbrev pub state_byte : CellState → ℕ
+state_byte Blank = 0
+state_byte Held = 1
+state_byte Spoiled = 2
 
 -- what a state byte of 0 means
 abbrev pub zero_cell : Kind → Cell

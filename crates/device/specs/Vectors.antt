@@ -2,10 +2,11 @@
 use Rattle.std.specs.Prelude.{◌≡◌, ℕ, List, [], ◌∷◌, ◌++◌, replicate, Ok}
 use Rattle.device.specs.declared.interface.Kind.{Kind}
 use Rattle.device.specs.declared.interface.Kind.TheVariants.{Rewritable, WriteOnce}
+use Rattle.device.specs.declared.cell_state.CellState.TheVariants.{Blank, Held, Spoiled}
 use Rattle.device.specs.Refusals.{refused}
 use Rattle.device.specs.Meaning.{blank, held, spoiled, Meaning}
 use Rattle.device.specs.Calls.{read_outcome, write_outcome}
-use Rattle.device.specs.Storage.{disc_size, disc_cell, place_on}
+use Rattle.device.specs.Storage.{state_byte, disc_size, cell_from, disc_cell, place_on}
 
 -- 512 nines after a state byte
 abbrev nines : ℕ → List ℕ
@@ -27,6 +28,10 @@ pub record Vectors : Type 0 where
   pub zero_rewritable : disc_cell Rewritable (nines 0) 0 ≡ spoiled
   pub two : (k : Kind) → disc_cell k (nines 2) 0 ≡ spoiled
   pub second : (k : Kind) → disc_cell k (nines 2 ++ nines 1) 1 ≡ held (replicate 512 9)
+  -- what a state byte stands for is read back
+  pub byte_held : (k : Kind) (bytes : List ℕ) → cell_from k (state_byte Held) bytes ≡ held bytes
+  pub byte_blank : (bytes : List ℕ) → cell_from WriteOnce (state_byte Blank) bytes ≡ blank
+  pub byte_spoiled : (k : Kind) (bytes : List ℕ) → cell_from k (state_byte Spoiled) bytes ≡ spoiled
   -- each refusal, and the first where two apply
   pub bad_buffer : read_outcome three 0 100 ≡ refused 1 7 0
   pub past_end : read_outcome three 3 512 ≡ refused 2 7 3

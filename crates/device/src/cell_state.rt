@@ -2,6 +2,7 @@
 ghost use Rattle.std.specs.Prelude.{◌≡◌};
 ghost use Rattle.device.specs.Refusals.{told};
 ghost use Rattle.device.specs.Meaning.{cell};
+ghost use Rattle.device.specs.Storage.{state_byte};
 ghost use Rattle.device.specs.Calls.{read_state, write_state, state_of, state_told};
 
 use crate::fault::{BLOCK_LEN, DeviceFault, Place};
@@ -11,11 +12,11 @@ use crate::interface::{Device, Kind};
 #[derive(Clone, Copy, PartialEq, Eq, Debug)]
 pub enum CellState {
     /// Never written, on a write-once device.
-    Blank,
+    Blank = 0,
     /// Holding 512 bytes.
-    Held,
+    Held = 1,
     /// Neither to be read nor to be written.
-    Spoiled,
+    Spoiled = 2,
 }
 
 impl CellState {
@@ -25,18 +26,7 @@ impl CellState {
         ensures same { D.Device.meaning device.new ≡ D.Device.meaning device.old }
     {
         let mut scratch = [0; BLOCK_LEN];
-        CellState::after_read(device.read(block, &mut scratch))
-    }
-
-    /// The state that the answer to a read tells.
-    pub fn after_read(answer: Result<(), DeviceFault>) -> CellState
-        ensures { result ≡ state_told (told answer) }
-    {
-        match answer {
-            Ok(()) => CellState::Held,
-            Err(DeviceFault::Blank { .. }) => CellState::Blank,
-            Err(_) => CellState::Spoiled,
-        }
+        CellState::from(device.read(block, &mut scratch))
     }
 
     /// Whether such a block may be read, and else the refusal.
@@ -59,5 +49,27 @@ impl CellState {
             (Kind::WriteOnce, CellState::Held) => Err(DeviceFault::AlreadyHeld { place }),
             _ => Ok(()),
         }
+    }
+}
+
+impl From<Result<(), DeviceFault>> for CellState {
+    ghost from_gives = { λ answer state. state ≡ state_told (told answer) };
+
+    /// The state that the answer to a read tells.
+    fn from(answer: Result<(), DeviceFault>) -> CellState {
+        match answer {
+            Ok(()) => CellState::Held,
+            Err(DeviceFault::Blank { .. }) => CellState::Blank,
+            Err(_) => CellState::Spoiled,
+        }
+    }
+}
+
+impl From<CellState> for u8 {
+    ghost from_gives = { λ state byte. byte ≡ state_byte state };
+
+    /// The state byte that stands for the state in a disc's storage.
+    fn from(state: CellState) -> u8 {
+        state as u8
     }
 }

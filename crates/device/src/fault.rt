@@ -31,7 +31,7 @@ pub enum DeviceFault {
 }
 
 impl DeviceFault {
-    /// The refusal's number.
+    /// The refusal's number, as it is printed and handed back. Code goes by the case.
     pub fn number(self) -> u8
         ensures { result ≡ (shown self).number }
     {

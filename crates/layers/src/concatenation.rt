@@ -31,12 +31,7 @@ impl<A: Device, B: Device> Concatenation<A, B> {
     pub fn into_parts(self) -> (A, B)
         ensures { result ≡ (self.first, self.second) }
     {
-        let Concatenation {
-            label: _,
-            first,
-            second,
-        } = self;
-        (first, second)
+        (self.first, self.second)
     }
 }
 

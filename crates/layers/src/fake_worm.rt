@@ -1,8 +1,8 @@
 //! A write-once device over a rewritable one.
-ghost use Rattle.std.specs.Prelude.{◌≡◌, ◌<◌, ◌≤◌, length, is_ok};
+ghost use Rattle.std.specs.Prelude.{◌≡◌, ◌<◌, ◌≤◌, is_ok};
 ghost use Rattle.device.specs.Refusals.{told};
 ghost use Rattle.device.specs.Calls.{Reads, Writes};
-ghost use Rattle.layers.specs.FakeWorms.{worm_size, worm_blocks, bit_byte, worth, marked, marks, or_spoiled, meaning_of, below_after};
+ghost use Rattle.layers.specs.FakeWorms.{worm_size, bit_byte, worth, marked, marks, or_spoiled, meaning_of, below_after};
 ghost use Rattle.layers.specs.Soundness.{worm_sound};
 
 use device::fault::{BLOCK_LEN, DeviceFault, Place, admit};
@@ -30,8 +30,7 @@ impl<A: Device> FakeWorm<A> {
     pub fn into_part(self) -> A
         ensures { result ≡ self.below }
     {
-        let FakeWorm { label: _, below } = self;
-        below
+        self.below
     }
 }
 
@@ -41,17 +40,6 @@ fn worm_size(n: u32) -> u32
     ensures { result ≡ worm_size n }
 {
     n - (n + BITS) / (BITS + 1)
-}
-
-/// How many blocks a fake worm over this device has.
-fn blocks_over<A: Device>(below: &A) -> u32
-    ensures { result ≡ worm_blocks (A.Device.meaning below.now) }
-{
-    if below.kind() == Kind::Rewritable {
-        worm_size(below.size())
-    } else {
-        0
-    }
 }
 
 /// The byte of a block's bit.
@@ -70,16 +58,14 @@ fn mask(block: u32) -> u8
 }
 
 /// Whether the bit of a block is 1.
-fn is_marked(bits: &[u8], block: u32) -> bool
-    requires { length bits.now ≡ 512 }
+fn is_marked(bits: &[u8; BLOCK_LEN], block: u32) -> bool
     ensures { result ≡ marked bits.now block }
 {
     bits[byte_of(block)] & mask(block) != 0
 }
 
 /// Makes the bit of a block 1.
-fn mark(bits: &mut [u8], block: u32)
-    requires { length bits.old ≡ 512 }
+fn mark(bits: &mut [u8; BLOCK_LEN], block: u32)
     ensures { bits.new ≡ marks bits.old block }
 {
     bits[byte_of(block)] |= mask(block);
@@ -89,10 +75,7 @@ fn mark(bits: &mut [u8], block: u32)
 fn or_spoiled(answer: Result<(), DeviceFault>, place: Place) -> Result<(), DeviceFault>
     ensures { told result ≡ or_spoiled place (told answer) }
 {
-    match answer {
-        Ok(()) => Ok(()),
-        Err(_) => Err(DeviceFault::Spoiled { place }),
-    }
+    answer.map_err(|_| DeviceFault::Spoiled { place })
 }
 
 impl<A: Device> Device for FakeWorm<A> {
@@ -109,7 +92,11 @@ impl<A: Device> Device for FakeWorm<A> {
     }
 
     fn size(&self) -> u32 {
-        blocks_over(&self.below)
+        if self.below.kind() == Kind::Rewritable {
+            worm_size(self.below.size())
+        } else {
+            0
+        }
     }
 
     fn place(&self, block: u32) -> Place {
@@ -124,9 +111,10 @@ impl<A: Device> Device for FakeWorm<A> {
         ensures cells { Reads (meaning_of A.Device self.old) block buf.old result buf.new (meaning_of A.Device self.new) }
         ensures below { A.Device.meaning self.new.below ≡ A.Device.meaning self.old.below }
     {
-        admit(self.label, self.size(), block, buf.len())?;
+        let size = self.size();
+        admit(self.label, size, block, buf.len())?;
         let place = self.place(block);
-        let at = blocks_over(&self.below) + block / BITS;
+        let at = size + block / BITS;
         let mut bits = [0; BLOCK_LEN];
         or_spoiled(self.below.read(at, &mut bits), place)?;
         if is_marked(&bits, block) {
@@ -142,9 +130,10 @@ impl<A: Device> Device for FakeWorm<A> {
         ensures cells { Writes (meaning_of A.Device self.old) block buf.now result (meaning_of A.Device self.new) }
         ensures below { A.Device.meaning self.new.below ≡ below_after (is_ok result) (A.Device.meaning self.old.below) block buf.now }
     {
-        admit(self.label, self.size(), block, buf.len())?;
+        let size = self.size();
+        admit(self.label, size, block, buf.len())?;
         let place = self.place(block);
-        let at = blocks_over(&self.below) + block / BITS;
+        let at = size + block / BITS;
         let mut bits = [0; BLOCK_LEN];
         or_spoiled(self.below.read(at, &mut bits), place)?;
         if is_marked(&bits, block) {

@@ -8,6 +8,8 @@ use device::cell_state::CellState;
 use device::fault::{DeviceFault, Place, admit};
 use device::interface::{Device, Kind};
 
+// One type with `Concatenation` would be no plainer: they share only `new` and `into_parts`, and each clause would name a marker of the rule.
+
 /// Two devices that hold the same blocks, so that a block lasts while one of its sides does. The two fit if they are of one
 /// kind; else there are no blocks.
 #[derive(Drop)]
@@ -32,12 +34,7 @@ impl<A: Device, B: Device> Mirror<A, B> {
     pub fn into_parts(self) -> (A, B)
         ensures { result ≡ (self.first, self.second) }
     {
-        let Mirror {
-            label: _,
-            first,
-            second,
-        } = self;
-        (first, second)
+        (self.first, self.second)
     }
 }
 
@@ -100,11 +97,11 @@ impl<A: Device, B: Device> Device for Mirror<A, B> {
     {
         admit(self.label, self.size(), block, buf.len())?;
         let place = self.first.place(block);
-        let first = CellState::after_read(self.first.read(block, buf));
+        let first = CellState::from(self.first.read(block, buf));
         if first == CellState::Held {
             return Ok(());
         }
-        let second = CellState::after_read(self.second.read(block, buf));
+        let second = CellState::from(self.second.read(block, buf));
         merge(first, second).readable(place)
     }
 

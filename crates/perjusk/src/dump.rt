@@ -32,8 +32,6 @@ const NEXT_SUPER: u32 = 14;
 /// The blocks of the file, of which the indirect block names all but six.
 const FILE_BLOCKS: u32 = 9;
 
-const NAMED_BLOCKS: u32 = 3;
-
 /// The qids of the directory "/" and of the file.
 const ROOT_QID: u32 = 1;
 
@@ -42,7 +40,7 @@ const FILE_QID: u32 = 2;
 const NEXT_QID: u32 = 3;
 
 /// Writes the dump onto the pile, the super last, and prints a line for each part.
-pub(crate) fn lay_out<D: Device>(rt: &HostRuntime, pile: &mut D) -> io::Result<()> {
+pub(crate) fn lay_out<D: Device>(rt: &impl Print, pile: &mut D) -> io::Result<()> {
     report(rt, "blocks 5 to 13, the file blend", write_data(pile))?;
     let indirect = pile.write(INDIRECT, &indirect_block());
     report(rt, "block 4, its indirect block", indirect)?;
@@ -67,7 +65,7 @@ pub(crate) fn lay_out<D: Device>(rt: &HostRuntime, pile: &mut D) -> io::Result<(
 }
 
 /// Prints what came of writing a part of the dump.
-fn report(rt: &HostRuntime, what: &str, answer: Result<(), DeviceFault>) -> io::Result<()> {
+fn report(rt: &impl Print, what: &str, answer: Result<(), DeviceFault>) -> io::Result<()> {
     match answer {
         Ok(()) => println!(rt; "dump by hand, {what}: done"),
         Err(fault) => println!(rt; "dump by hand, {what}: {fault}"),
@@ -87,10 +85,10 @@ fn file_block(j: usize) -> [u8; BLOCK_LEN]
     requires { j < 9 }
 {
     let mut bytes = new_block(Tag::File, FILE_QID);
-    for i in 0..BODY_LEN {
+    for (i, byte) in bytes.iter_mut().take(BODY_LEN).enumerate() {
         let at = BODY_LEN * j + i;
         if at < TABLE_LEN {
-            bytes[i] = table_level(at);
+            *byte = table_level(at);
         }
     }
     bytes
@@ -99,8 +97,8 @@ fn file_block(j: usize) -> [u8; BLOCK_LEN]
 /// The file's indirect block.
 fn indirect_block() -> [u8; BLOCK_LEN] {
     let mut bytes = new_block(Tag::Indirect, FILE_QID);
-    for j in 0..NAMED_BLOCKS {
-        write_address(&mut bytes, j as usize, DATA + 6 + j);
+    for (j, address) in (DATA + 6..DATA + FILE_BLOCKS).enumerate() {
+        write_address(&mut bytes, j, address);
     }
     bytes
 }

@@ -13,7 +13,7 @@ use std::io;
 
 fn main(rt: HostRuntime) -> io::Result<()> {
     println!(rt; "Perjusk keeps the blend table of one seam on a pile of discs.")?;
-    let mut pile = pile::build(&rt)?;
+    let mut pile = pile::build(rt.alloc(), &rt)?;
     store(&rt, &mut pile)?;
     show_refusals(&rt, &mut pile)?;
     read_back(&rt, &mut pile)?;
@@ -26,7 +26,7 @@ fn main(rt: HostRuntime) -> io::Result<()> {
 pub(crate) const TABLE: u32 = 16;
 
 /// Writes the table, block by block.
-fn store<D: Device>(rt: &HostRuntime, pile: &mut D) -> io::Result<()> {
+fn store<D: Device>(rt: &impl Print, pile: &mut D) -> io::Result<()> {
     for block in 0..TABLE_BLOCKS {
         let part = Part::of_block(block);
         let at = TABLE + block;
@@ -39,7 +39,7 @@ fn store<D: Device>(rt: &HostRuntime, pile: &mut D) -> io::Result<()> {
 }
 
 /// Asks for what the pile refuses.
-fn show_refusals<D: Device>(rt: &HostRuntime, pile: &mut D) -> io::Result<()> {
+fn show_refusals<D: Device>(rt: &impl Print, pile: &mut D) -> io::Result<()> {
     let mut buf = [0; BLOCK_LEN];
     if let Err(fault) = pile.write(TABLE, &buf) {
         println!(rt; "write block {TABLE} again: {fault}")?;
@@ -57,7 +57,7 @@ fn show_refusals<D: Device>(rt: &HostRuntime, pile: &mut D) -> io::Result<()> {
 }
 
 /// Reads the table through the damaged pile and compares it with what was written.
-fn read_back<D: Device>(rt: &HostRuntime, pile: &mut D) -> io::Result<()> {
+fn read_back<D: Device>(rt: &impl Print, pile: &mut D) -> io::Result<()> {
     let mut same = 0u32;
     for block in 0..TABLE_BLOCKS {
         let part = Part::of_block(block);

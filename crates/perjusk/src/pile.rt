@@ -1,9 +1,10 @@
 //! The pile: a fake worm over a mirror of concatenated discs, of which one has spoiled blocks.
 use crate::TABLE;
 use crate::seam::{Part, TABLE_BLOCKS};
+use device::cell_state::CellState;
 use device::disc::Disc;
 use device::fault::BLOCK_LEN;
-use device::interface::Device;
+use device::interface::{Device, Kind};
 use layers::concatenation::Concatenation;
 use layers::fake_worm::FakeWorm;
 use layers::mirror::Mirror;
@@ -16,25 +17,18 @@ type Side = Concatenation<Disc, Disc>;
 /// A write-once device that keeps each block twice.
 pub(crate) type Pile = FakeWorm<Mirror<Side, Side>>;
 
-/// The state byte of a block that is held.
-const HELD: u8 = 1;
-
-/// A state byte that means spoiled, as all but two do.
-const SPOILED: u8 = 2;
-
 /// The blocks of disc 1 that are spoiled from the start.
 const SPOILED_BLOCKS: [u32; 3] = [2, 17, 18];
 
 /// Sets up the pile, and prints what it is made of.
-pub(crate) fn build(rt: &HostRuntime) -> io::Result<Pile> {
-    let heap = rt.alloc();
-    let one = Disc::rewritable(1, storage(heap, 24, &SPOILED_BLOCKS)?);
+pub(crate) fn build(heap: Global, rt: &impl Print) -> io::Result<Pile> {
+    let one = Disc::new(1, Kind::Rewritable, storage(heap, 24, &SPOILED_BLOCKS)?);
     show(rt, "a disc with blocks 2, 17 and 18 spoiled", &one)?;
-    let two = Disc::rewritable(2, storage(heap, 16, &[])?);
+    let two = Disc::new(2, Kind::Rewritable, storage(heap, 16, &[])?);
     show(rt, "a disc", &two)?;
-    let three = Disc::rewritable(3, storage(heap, 28, &[])?);
+    let three = Disc::new(3, Kind::Rewritable, storage(heap, 28, &[])?);
     show(rt, "a disc", &three)?;
-    let four = Disc::rewritable(4, storage(heap, 12, &[])?);
+    let four = Disc::new(4, Kind::Rewritable, storage(heap, 12, &[])?);
     show(rt, "a disc", &four)?;
     let first = Concatenation::new(11, one, two);
     show(
@@ -60,7 +54,7 @@ pub(crate) fn build(rt: &HostRuntime) -> io::Result<Pile> {
 }
 
 /// Takes the pile apart, and prints how much of the table each of its two discs holds.
-pub(crate) fn take_apart(rt: &HostRuntime, pile: Pile) -> io::Result<()> {
+pub(crate) fn take_apart(rt: &impl Print, pile: Pile) -> io::Result<()> {
     let (first, second) = pile.into_part().into_parts();
     let (mut one, _) = first.into_parts();
     let (mut three, _) = second.into_parts();
@@ -76,29 +70,25 @@ fn storage(heap: Global, blocks: u32, spoiled: &[u32]) -> Result<Vec<u8>, AllocE
     let mut bytes = Vec::new(heap);
     for block in 0..blocks {
         let state = if spoiled.contains(&block) {
-            SPOILED
+            CellState::Spoiled
         } else {
-            HELD
+            CellState::Held
         };
-        bytes.push(state)?;
+        bytes.push(u8::from(state))?;
         bytes.extend_from_slice(&[0; BLOCK_LEN])?;
     }
     Ok(bytes)
 }
 
 /// How many blocks of the table a disc holds.
-fn table_blocks_on<D: Device>(disc: &mut D) -> u32 {
-    let mut count = 0u32;
-    for block in 0..TABLE_BLOCKS {
-        if let Ok(true) = Part::of_block(block).is_in(disc, TABLE + block) {
-            count = count.saturating_add(1);
-        }
-    }
-    count
+fn table_blocks_on<D: Device>(disc: &mut D) -> usize {
+    (0..TABLE_BLOCKS)
+        .filter(|&block| Part::of_block(block).is_in(disc, TABLE + block) == Ok(true))
+        .count()
 }
 
 /// Prints a device's label, what it is, its kind and its size.
-fn show<D: Device>(rt: &HostRuntime, what: &str, device: &D) -> io::Result<()> {
+fn show<D: Device>(rt: &impl Print, what: &str, device: &D) -> io::Result<()> {
     let label = device.label();
     let kind = device.kind();
     let size = device.size();

@@ -11,7 +11,7 @@ use layout::super_block::Super;
 use std::{io, str};
 
 /// Follows the first super to its tree, of "/" and the files in it, and prints a line for each thing found.
-pub(crate) fn show_tree<D: Device>(rt: &HostRuntime, pile: &mut D) -> io::Result<()> {
+pub(crate) fn show_tree<D: Device>(rt: &impl Print, pile: &mut D) -> io::Result<()> {
     let mut bytes = [0; BLOCK_LEN];
     if let Err(fault) = pile.read(SUPER, &mut bytes) {
         return println!(rt; "super: {fault}");
@@ -33,18 +33,16 @@ pub(crate) fn show_tree<D: Device>(rt: &HostRuntime, pile: &mut D) -> io::Result
     }
     let entry = BlockView::new(&bytes).entry(0);
     show_entry(rt, entry)?;
-    for i in 0..DIRECT_COUNT {
-        let address = entry.direct(i);
-        if address != 0 {
-            show_directory(rt, pile, address, next_qid)?;
-        }
+    let addresses = (0..DIRECT_COUNT).map(|i| entry.direct(i));
+    for address in addresses.filter(|&address| address != 0) {
+        show_directory(rt, pile, address, next_qid)?;
     }
     Ok(())
 }
 
 /// Prints the entries of a directory block, and of each file what is in its blocks.
 fn show_directory<D: Device>(
-    rt: &HostRuntime,
+    rt: &impl Print,
     pile: &mut D,
     address: u32,
     next_qid: u32,
@@ -67,11 +65,8 @@ fn show_directory<D: Device>(
 }
 
 /// Prints what an entry says.
-fn show_entry(rt: &HostRuntime, entry: EntryView<'_>) -> io::Result<()> {
-    let name = match str::from_utf8(entry.name()) {
-        Ok(name) => name,
-        Err(_) => "of no text",
-    };
+fn show_entry(rt: &impl Print, entry: EntryView<'_>) -> io::Result<()> {
+    let name = str::from_utf8(entry.name()).unwrap_or("of no text");
     let kind = if entry.mode() == Mode::Directory.number() {
         "directory"
     } else {
@@ -84,7 +79,7 @@ fn show_entry(rt: &HostRuntime, entry: EntryView<'_>) -> io::Result<()> {
 }
 
 /// Prints a line for each block of a file, as the pointers lead to it.
-fn show_file<D: Device>(rt: &HostRuntime, pile: &mut D, entry: EntryView<'_>) -> io::Result<()> {
+fn show_file<D: Device>(rt: &impl Print, pile: &mut D, entry: EntryView<'_>) -> io::Result<()> {
     let mut indirect = [0; BLOCK_LEN];
     let address = entry.indirect();
     if address != 0 {
@@ -108,7 +103,7 @@ fn show_file<D: Device>(rt: &HostRuntime, pile: &mut D, entry: EntryView<'_>) ->
 }
 
 /// Prints what the first bytes of a file's block are: levels of a field.
-fn show_data<D: Device>(rt: &HostRuntime, pile: &mut D, address: u32, len: usize) -> io::Result<()>
+fn show_data<D: Device>(rt: &impl Print, pile: &mut D, address: u32, len: usize) -> io::Result<()>
     requires { len ≤ 504 }
 {
     let mut bytes = [0; BLOCK_LEN];

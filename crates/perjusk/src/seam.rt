@@ -34,14 +34,6 @@ enum Field {
 }
 
 impl Field {
-    /// What the field is called.
-    fn name(self) -> &'static str {
-        match self {
-            Field::Dark => "dark",
-            Field::White => "white",
-        }
-    }
-
     /// The level at a place of the field. The dark field is faint, and the white one rises across the overlap.
     fn level(self, at: usize) -> u8
         requires { at < 2048 }
@@ -53,6 +45,15 @@ impl Field {
             Field::White => 96 + row / 2 + column * 2,
         };
         level as u8
+    }
+}
+
+impl fmt::Display for Field {
+    fn fmt<W: fmt::Write>(&self, f: &mut fmt::Formatter<W>) -> fmt::Result {
+        f.write_str(match self {
+            Field::Dark => "dark",
+            Field::White => "white",
+        })
     }
 }
 
@@ -108,9 +109,9 @@ impl Part {
 
 impl fmt::Display for Part {
     fn fmt<W: fmt::Write>(&self, f: &mut fmt::Formatter<W>) -> fmt::Result {
-        let name = self.field.name();
+        let field = self.field;
         let first = self.first_row;
         let last = first + ROWS_OF_BLOCK - 1;
-        write!(f, "{name} field, rows {first} to {last}")
+        write!(f, "{field} field, rows {first} to {last}")
     }
 }

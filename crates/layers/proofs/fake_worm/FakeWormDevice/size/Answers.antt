@@ -1,6 +1,7 @@
-use Rattle.std.proofs.Common.{sym, ◌∙◌}
+use Rattle.std.proofs.Common.{rules}
 use Rattle.layers.specs.Soundness.{worm_size_lem}
 use Rattle.layers.proofs.fake_worm.FakeWormDevice.size.Goals as goal
 
-pub returns : goal.returns
-returns g c = let s = c.args.self.now in c.blocks_over.ensures ∙ sym (worm_size_lem s.label (g.A.Device.meaning s.below))
+pub returns-then-eq : goal.returns-then-eq
+returns-then-eq g c =
+    let n = worm_size_lem c.args.self.now.label (g.A.Device.meaning c.args.self.now.below) in let e = c.if-eq.ensures in search rules
