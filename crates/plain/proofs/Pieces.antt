@@ -1,19 +1,54 @@
 -- How a text of names comes apart at its slashes.
-use Rattle.std.proofs.Common.{◌≡◌, ℕ, ◌+◌, ◌*◌, ◌<◌, ◌≤◌, Bool, true, false, cond, ◌&&◌, eqb, leb, ◌⊎◌, List, [], ◌∷◌, ◌++◌, length, get_or, take, drop, is_some, Some, None, Option, sym, refl, ap, ◌∙◌, subst, inl, inr, ⊎_elim, arith}
+use Rattle.std.proofs.Common.{◌<◌, ◌≡◌, ℕ, ◌*◌, ◌≤◌, Bool, true, false, cond, ◌&&◌, eqb, leb, ◌⊎◌, List, [], ◌∷◌, ◌++◌, length, drop, is_some, Some, None, Option, sym, refl, ap, ◌∙◌, subst, inl, inr, ⊎_elim, arith}
 use Rattle.std.specs.Option.{option_map}
-use Rattle.std.proofs.lemmas.List.{length-append, length-take, length-drop, drop_at, drop_all, drop-drop, drop_more}
-use Rattle.std.proofs.lemmas.Bool.{and_parts, and_from, and_left, eq-eqb, ne_eqb, eqb-true, le-leb, leb-true}
+use Rattle.std.specs.List.{list_all, onto_first, slice_split}
+use Rattle.std.proofs.lemmas.List.Splits.{length-slice_split}
+use Rattle.std.proofs.lemmas.List.{length-append, drop_at}
+use Rattle.std.proofs.lemmas.Bool.{and_parts, and_left, and_right, ne_eqb, eqb-true, le-leb, leb-true}
 use Rattle.plain.specs.Names.{every, is_name, name_byte}
-use Rattle.plain.specs.Paths.{onto, pieces, first_piece, name_end, names_in, at_most_eight, is_root, path_of, names_text, path_text}
+use Rattle.plain.proofs.Everys.{every_is}
+use Rattle.plain.specs.Paths.{onto, pieces, names_in, at_most_eight, is_root, path_of, names_text, path_text}
+
+-- the bytes before the first slash
+abbrev first_piece : List ℕ → List ℕ
+first_piece [] = []
+first_piece (b ∷ bs) = cond (eqb b 47) [] (b ∷ first_piece bs)
 
 -- the text from the first slash on
-abbrev pub from_slash : List ℕ → List ℕ
+abbrev from_slash : List ℕ → List ℕ
 from_slash bs = drop (length (first_piece bs)) bs
 
 -- the pieces of a text that is empty or begins with a slash
 abbrev later : List ℕ → List (List ℕ)
 later [] = []
 later (b ∷ bs) = pieces bs
+
+-- the pieces are the parts of a split at the slashes
+pieces_split : (bs : List ℕ) → pieces bs ≡ slice_split (λ b. eqb b 47) bs
+pieces_split [] = refl
+pieces_split (b ∷ bs) =
+    let parts = slice_split (λ x. eqb x 47) bs in
+    ap (λ ps. cond (eqb b 47) ([] ∷ ps) (onto b ps)) (pieces_split bs) ∙ ap (λ ps. cond (eqb b 47) ([] ∷ parts) ps) (onto_is b parts)
+  where
+    onto_is : (b : ℕ) (ps : List (List ℕ)) → onto b ps ≡ onto_first b ps
+    onto_is b [] = refl
+    onto_is b (p ∷ ps) = refl
+
+-- whether the parts of a text are the names of a path
+pub split_names : (bs : List ℕ) →
+    is_some (at_most_eight (names_in (47 ∷ bs))) ≡ (leb (length (slice_split (λ b. eqb b 47) bs)) 8 && list_all is_name (slice_split (λ b. eqb b 47) bs))
+split_names bs =
+    let parts = slice_split (λ b. eqb b 47) bs in
+    let more : 1 ≤ length parts = omega (arith, length-slice_split (λ b. eqb b 47) bs) in
+    ap (λ ps. is_some (at_most_eight (cond (every is_name ps) (Some ps) None))) (pieces_split bs) ∙ rw (every_is is_name parts) (by parts (list_all is_name parts) more)
+  where
+    by : (ps : List (List ℕ)) (t : Bool) → 1 ≤ length ps → is_some (at_most_eight (cond t (Some ps) None)) ≡ (leb (length ps) 8 && t)
+    by ps true h = rw (le-leb 1 (length ps) h) (some (leb (length ps) 8))
+      where
+        some : (u : Bool) → is_some (cond u (Some ps) None) ≡ (u && true)
+        some true = refl
+        some false = refl
+    by ps false h = sym (and_right _ false refl)
 
 pieces_are : (bs : List ℕ) → pieces bs ≡ first_piece bs ∷ later (from_slash bs)
 pieces_are [] = refl
@@ -33,10 +68,10 @@ slash_next (b ∷ bs) = by (slash_next bs) (eqb b 47) refl
     by h false e = h
 
 -- a name in front of others, if it is one
-abbrev pub cons_name : List ℕ → Option (List (List ℕ)) → Option (List (List ℕ))
+abbrev cons_name : List ℕ → Option (List (List ℕ)) → Option (List (List ℕ))
 cons_name n ns = cond (is_name n) (option_map (λ l. n ∷ l) ns) None
 
-pub names_step : (bs : List ℕ) → names_in (47 ∷ bs) ≡ cons_name (first_piece bs) (names_in (from_slash bs))
+names_step : (bs : List ℕ) → names_in (47 ∷ bs) ≡ cons_name (first_piece bs) (names_in (from_slash bs))
 names_step bs = ap (λ ps. cond (every is_name ps) (Some ps) None) (pieces_are bs) ∙ ⊎_elim none some (slash_next bs)
   where
     by : (t u : Bool) (n : List ℕ) (ps : List (List ℕ)) → cond (t && u) (Some (n ∷ ps)) None ≡ cond t (option_map (λ l. n ∷ l) (cond u (Some ps) None)) None
@@ -51,10 +86,6 @@ names_step bs = ap (λ ps. cond (every is_name ps) (Some ps) None) (pieces_are b
     some : (cs : List ℕ) × (from_slash bs ≡ 47 ∷ cs) →
         cond (every is_name (first_piece bs ∷ later (from_slash bs))) (Some (first_piece bs ∷ later (from_slash bs))) None ≡ cons_name (first_piece bs) (names_in (from_slash bs))
     some p = rw p.1 (by (is_name (first_piece bs)) (every is_name (pieces p.0)) (first_piece bs) (pieces p.0))
-
--- a text that does not begin with a slash has no names
-pub names_not : (b : ℕ) (bs : List ℕ) → eqb b 47 ≡ false → names_in (b ∷ bs) ≡ None
-names_not b bs e = rw e
 
 -- a piece without a slash, before one or the end
 free_of_slash : (n rest : List ℕ) → every name_byte n ≡ true → (rest ≡ []) ⊎ ((cs : List ℕ) × (rest ≡ 47 ∷ cs)) → first_piece (n ++ rest) ≡ n
@@ -84,71 +115,6 @@ text_names (n ∷ ns) h =
     ∙ ap (cons_name n) (text_names ns p.1)
     ∙ rw p.0
 
--- a search for the first slash, at place i of a text
-module _ (text : List ℕ) (i : ℕ) (h : i < length text) where
-  pub piece_more : (get_or text i 0 ≡ 47 → ⊥) → length (first_piece (drop i text)) ≡ length (first_piece (drop (i + 1) text)) + 1
-  piece_more ne = let e = ne_eqb (get_or text i 0) 47 ne in rw (drop_more text i 0 h, e) (omega arith)
-
-  pub piece_stops : get_or text i 0 ≡ 47 → length (first_piece (drop i text)) ≡ 0
-  piece_stops is = let e = eq-eqb (get_or text i 0) 47 is in rw (drop_more text i 0 h, e)
-
--- the first piece is the front of a text
-pub piece_front : (bs : List ℕ) → take (length (first_piece bs)) bs ≡ first_piece bs
-piece_front [] = refl
-piece_front (b ∷ bs) = by (piece_front bs) (eqb b 47)
-  where
-    by : take (length (first_piece bs)) bs ≡ first_piece bs → (t : Bool) → take (length (cond t [] (b ∷ first_piece bs))) (b ∷ bs) ≡ cond t [] (b ∷ first_piece bs)
-    by h true = refl
-    by h false = ap (λ l. b ∷ l) h
-
-pub piece_short : (bs : List ℕ) → length (first_piece bs) ≤ length bs
-piece_short bs = omega (arith, ap length (piece_front bs), length-take (length (first_piece bs)) bs)
-
--- the end of the name after the slash at a place of a text: past the end, at another byte, and by the piece that follows
-pub end_past : (text : List ℕ) (at : ℕ) → length text ≤ at → None ≡ name_end at (drop at text)
-end_past text at h = rw (drop_all at text h)
-
-module _ (text : List ℕ) (at : ℕ) (h : at < length text) where
-  pub end_none : (get_or text at 0 ≡ 47 → ⊥) → None ≡ name_end at (drop at text)
-  end_none ne = let e = ne_eqb (get_or text at 0) 47 ne in rw (drop_more text at 0 h, e)
-
-  pub end_by : (t : Bool) → get_or text at 0 ≡ 47 → is_name (first_piece (drop (at + 1) text)) ≡ t →
-      name_end at (drop at text) ≡ cond t (Some (at + 1 + length (first_piece (drop (at + 1) text)))) None
-  end_by t is n = let e = eq-eqb (get_or text at 0) 47 is in rw (drop_more text at 0 h, e, n)
-
-  -- the names from there on
-  module _ (end : ℕ) (is : name_end at (drop at text) ≡ Some end) where
-    parts : (eqb (get_or text at 0) 47 ≡ true) × (is_name (first_piece (drop (at + 1) text)) ≡ true) × (at + 1 + length (first_piece (drop (at + 1) text)) ≡ end)
-    parts = by (eqb (get_or text at 0) 47) (is_name (first_piece (drop (at + 1) text))) (sym (ap (name_end at) (drop_more text at 0 h)) ∙ is)
-      where
-        by : (t u : Bool) → cond (t && u) (Some (at + 1 + length (first_piece (drop (at + 1) text)))) None ≡ Some end →
-            (t ≡ true) × (u ≡ true) × (at + 1 + length (first_piece (drop (at + 1) text)) ≡ end)
-        by true true e = (refl, refl, cc)
-        by true false e = (refl, cc, cc)
-        by false u e = (cc, cc, cc)
-
-    pub names_end : names_in (drop at text) ≡ option_map (λ l. first_piece (drop (at + 1) text) ∷ l) (names_in (drop end text))
-    names_end =
-        let p = parts in
-        ap names_in (drop_more text at 0 h ∙ ap (λ x. x ∷ drop (at + 1) text) (eqb-true _ _ p.0))
-        ∙ names_step (drop (at + 1) text)
-        ∙ ap (λ t. cond t (option_map (λ l. first_piece (drop (at + 1) text) ∷ l) (names_in (from_slash (drop (at + 1) text)))) None) p.1
-        ∙ ap (λ l. option_map (λ ns. first_piece (drop (at + 1) text) ∷ ns) (names_in l)) (drop-drop (length (first_piece (drop (at + 1) text))) (at + 1) text ∙ ap (λ k. drop k text) p.2)
-
-    pub end_within : (at < end) × (end ≤ length text)
-    end_within = let p = parts in (omega arith, omega (arith, piece_short (drop (at + 1) text), length-drop (at + 1) text))
-
-  pub names_end_none : name_end at (drop at text) ≡ None → names_in (drop at text) ≡ None
-  names_end_none e = ap names_in (drop_more text at 0 h) ∙ by (eqb (get_or text at 0) 47) refl (is_name (first_piece (drop (at + 1) text))) refl (sym (ap (name_end at) (drop_more text at 0 h)) ∙ e)
-    where
-      by : (t : Bool) → eqb (get_or text at 0) 47 ≡ t → (u : Bool) → is_name (first_piece (drop (at + 1) text)) ≡ u →
-          cond (eqb (get_or text at 0) 47 && is_name (first_piece (drop (at + 1) text))) (Some (at + 1 + length (first_piece (drop (at + 1) text)))) None ≡ None →
-          names_in (get_or text at 0 ∷ drop (at + 1) text) ≡ None
-      by false p u q e = names_not (get_or text at 0) (drop (at + 1) text) p
-      by true p false q e = ap (λ x. names_in (x ∷ drop (at + 1) text)) (eqb-true _ _ p) ∙ names_step (drop (at + 1) text) ∙ rw q
-      by true p true q e =
-          let e' : Some (at + 1 + length (first_piece (drop (at + 1) text))) ≡ None = rw (p, q) at e in let z : ◌≡◌ {A = ℕ} 0 1 = cc in absurd (omega arith)
-
 -- the text of its pieces is the text
 pieces_text : (bs : List ℕ) → names_text (pieces bs) ≡ 47 ∷ bs
 pieces_text [] = refl
@@ -170,7 +136,7 @@ names_short (n ∷ ns) h =
     omega (arith, names_short ns p.1, leb-true _ _ r.1, length-append n (names_text ns))
 
 -- a path has at most 224 bytes
-pub path_short : (text : List ℕ) → is_some (path_of text) ≡ true → length text ≤ 224
+path_short : (text : List ℕ) → is_some (path_of text) ≡ true → length text ≤ 224
 path_short text h = by (is_root text) refl h
   where
     some : (text : List ℕ) → is_some (at_most_eight (names_in text)) ≡ true → length text ≤ 224
@@ -192,16 +158,12 @@ path_short text h = by (is_root text) refl h
     by true e h = omega (arith, eqb-true (length text) 1 (and_parts (eqb (length text) 1) _ e).0)
     by false e h = some text h
 
-pub is_root_lem : (text : List ℕ) → length text ≡ 1 → get_or text 0 0 ≡ 47 → is_root text ≡ true
-is_root_lem [] n b = absurd (omega arith)
-is_root_lem (x ∷ []) n b = and_from _ _ (eq-eqb x 47 b) refl
-is_root_lem (x ∷ y ∷ l) n b = absurd (omega arith)
-
--- one name more was counted
-pub count_more : (k : ℕ) (n : List ℕ) (o : Option (List (List ℕ))) →
-    option_map (λ j. k + j) (option_map length (option_map (λ l. n ∷ l) o)) ≡ option_map (λ j. k + 1 + j) (option_map length o)
-count_more k n None = refl
-count_more k n (Some ns) = ap Some (omega arith)
+pub path_long : (text : List ℕ) → 224 < length text → path_of text ≡ None
+path_long text h = by (path_of text) refl
+  where
+    by : (o : Option (List (List ℕ))) → path_of text ≡ o → o ≡ None
+    by None e = refl
+    by (Some ns) e = absurd (omega (arith, h, path_short text (ap is_some e)))
 
 -- the names of a path are legal, at most eight, and their text is the path's
 pub record IsPath (text : List ℕ) (ns : List (List ℕ)) : Type 0 where

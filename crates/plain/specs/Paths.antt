@@ -1,5 +1,5 @@
 -- Paths: "/" alone, or 1 to 8 names, each after a "/", which is byte 47.
-use Rattle.std.specs.Prelude.{ℕ, ◌+◌, Bool, cond, ◌&&◌, List, [], ◌∷◌, ◌++◌, length, Some, None, Option, ◌==◌, nat_eq, nat_le}
+use Rattle.std.specs.Prelude.{ℕ, Bool, cond, ◌&&◌, List, [], ◌∷◌, ◌++◌, length, Some, None, Option, ◌==◌, nat_eq, nat_le}
 use Rattle.plain.specs.Names.{every, is_name}
 
 -- a byte more at the front of the first piece
@@ -11,16 +11,6 @@ onto b (p ∷ ps) = (b ∷ p) ∷ ps
 abbrev pub pieces : List ℕ → List (List ℕ)
 pieces [] = [] ∷ []
 pieces (b ∷ bs) = cond (b == 47) ([] ∷ pieces bs) (onto b (pieces bs))
-
--- the bytes before the first slash
-abbrev pub first_piece : List ℕ → List ℕ
-first_piece [] = []
-first_piece (b ∷ bs) = cond (b == 47) [] (b ∷ first_piece bs)
-
--- where a text of names is at `at`: the end of the name after the "/" there, if there is one
-abbrev pub name_end : ℕ → List ℕ → Option ℕ
-name_end at [] = None
-name_end at (b ∷ bs) = cond (b == 47 && is_name (first_piece bs)) (Some (at + 1 + length (first_piece bs))) None
 
 -- the names in a text in which each follows a "/"
 abbrev pub names_in : List ℕ → Option (List (List ℕ))

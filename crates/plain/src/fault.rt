@@ -5,7 +5,7 @@ ghost use Rattle.plain.specs.declared.fault.TreeFault.TheVariants.{Device};
 use device::fault::DeviceFault;
 
 /// Why the server refused a call. `docs/REFUSALS.md` has the number of each case.
-#[derive(Clone, Copy)]
+#[derive(Clone, Copy, PartialEq, Eq, Debug)]
 pub enum TreeFault {
     /// The path is malformed.
     MalformedPath,

@@ -1,44 +1,49 @@
 //! Names of files and directories.
-ghost use Rattle.std.specs.Prelude.{◌≡◌, ◌≤◌, true, false, length, take, MatchOption};
+ghost use Rattle.std.specs.Prelude.{◌≡◌, true, false, MatchOption};
 ghost use Rattle.plain.specs.Names.{is_name, name_byte};
 
-use crate::bytes::fill;
+use crate::text::Text;
+use std::marker::Model;
 
 /// The most bytes of a name.
 pub const NAME_MOST: usize = 27;
 
 /// A name: 1 to 27 bytes, each visible ASCII but "/". No value of this type is anything else.
-#[derive(Clone, Copy)]
+#[derive(Clone, Copy, PartialEq, Eq, Debug)]
 pub struct Name {
-    bytes: [u8; NAME_MOST],
-    len: usize,
-    ghost whole: { length bytes ≡ 27 },
-    ghost fits: { len ≤ 27 },
-    ghost legal: { is_name (take len bytes) ≡ true },
+    text: Text<NAME_MOST>,
+}
+
+impl Model for Name {
+    ghost use Rattle.std.specs.Prelude.{◌≡◌, ℕ, true, List};
+    ghost use Rattle.plain.specs.Names.{is_name};
+
+    ghost Value = { List ℕ };
+
+    ghost view = { λ n. n.text };
+
+    ghost invariant = { λ n. is_name n.text ≡ true };
+
+    ghost inverse = { λ v. record { text = v } };
 }
 
 impl Name {
     /// The bytes as a name, if they are one.
     pub fn new(bytes: &[u8]) -> Option<Name>
-        ensures { MatchOption result (is_name bytes.now ≡ false) (λ n. take n.len n.bytes ≡ bytes.now) }
+        ensures { MatchOption result (is_name bytes.now ≡ false) (λ n. n ≡ bytes.now) }
     {
-        if !is_name(bytes) {
-            return None;
+        match Text::new(bytes) {
+            Some(text) if is_name(text.as_bytes()) => Some(Name { text }),
+            _ => None,
         }
-        let mut copy = [0; NAME_MOST];
-        fill(&mut copy, bytes);
-        Some(Name {
-            bytes: copy,
-            len: bytes.len(),
-        })
     }
 
     /// The bytes of the name, which are always a name's.
     pub fn as_bytes(&self) -> &[u8]
-        ensures bytes { result.now ≡ take self.now.len self.now.bytes }
+        ensures bytes { result.now ≡ self.now }
         ensures legal { is_name result.now ≡ true }
     {
-        &self.bytes[0..self.len]
+        self.text.as_bytes()
     }
 }
 
@@ -53,13 +58,5 @@ fn is_name_byte(byte: u8) -> bool
 pub fn is_name(bytes: &[u8]) -> bool
     ensures { result ≡ is_name bytes.now }
 {
-    if bytes.is_empty() || bytes.len() > NAME_MOST {
-        return false;
-    }
-    for byte in bytes {
-        if !is_name_byte(*byte) {
-            return false;
-        }
-    }
-    true
+    (1..=NAME_MOST).contains(&bytes.len()) && bytes.iter().all(|byte| is_name_byte(*byte))
 }

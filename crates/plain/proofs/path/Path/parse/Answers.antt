@@ -1,15 +1,13 @@
-use Rattle.std.proofs.Common.{◌≡◌, length, take, sym, refl, arith}
-use Rattle.std.proofs.lemmas.List.{take_at}
-use Rattle.plain.proofs.Pieces.{path_short}
+use Rattle.std.proofs.Common.{refl, arith, rules}
+use Rattle.plain.proofs.Pieces.{path_long}
 use Rattle.plain.proofs.path.Path.parse.Goals as goal
+use Rattle.plain.proofs.path.Path.parse.Goals.{in_default-via-in-Some+else-is_path, in_default-via-in_default}
 
-pub fill-requires : goal.fill-requires
-fill-requires c = path_short c.args.text.now (sym c.if-not-is_path.ensures)
-
-pub invariant_of-result : goal.invariant_of-result
-invariant_of-result c =
-    let e : take (length c.args.text.now) c.fill.new.buf ≡ c.args.text.now = rw c.fill.ensures (take_at c.args.text.now _ _ refl) in
-    record { whole = omega arith; fits = path_short c.args.text.now (sym c.if-not-is_path.ensures); legal = rw e (sym c.if-not-is_path.ensures) }
-
-pub returns : goal.returns
-returns c = rw c.fill.ensures (take_at c.args.text.now _ _ refl)
+pub returns-in_default : goal.returns-in_default
+returns-in_default c = (
+  refl,
+  elim c.in_default.branch [
+    | in_default-via-in-Some+else-is_path w ↦ grind (arith, rules)
+    | in_default-via-in_default w ↦ grind (arith, rules, path_long c.args.text.now)
+  ],
+)
