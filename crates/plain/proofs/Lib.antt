@@ -10,3 +10,4 @@ pub mod Tidiness
 pub mod MakeLaw
 pub mod RemoveLaw
 pub mod Seen
+pub mod Texts

@@ -1,10 +1,21 @@
 //! Theorems about paths, the plain tree and the reference model, and the examples that they are tried on.
+ghost use Rattle.std.specs.Prelude.{◌≡◌, ℕ, List};
+ghost use Rattle.std.specs.Str.{bytes_eq};
 ghost use Rattle.plain.specs.Laws.{PathLaws, SightLaws, TreeLaws};
 ghost use Rattle.plain.specs.Vectors.{Vectors};
+
+use crate::name::Name;
+use crate::path::Path;
 
 /// Parsing what a path shows gives the path again, and a path shows what it was parsed from.
 pub fn path_laws_hold()
     ensures { PathLaws }
+{}
+
+/// Two names are equal exactly if their bytes are, and two paths too.
+pub fn equalities_hold()
+    ensures names { (a b : List ℕ) → ⟦<Name as PartialEq>⟧.eq a b ≡ bytes_eq a b }
+    ensures paths { (a b : List ℕ) → ⟦<Path as PartialEq>⟧.eq a b ≡ bytes_eq a b }
 {}
 
 /// Read, stat and entry tell no more of a path than its sight: a file, or a directory with its names.
