@@ -1,4 +1,7 @@
+pub mod Everys
+pub mod Tests
 pub mod Parts
+pub mod Chunks
 pub mod Patches
 pub mod Bytes
 pub mod Words

@@ -1,5 +1,5 @@
 -- Parts of lists, and lists of a fixed length.
-use Rattle.std.proofs.Common.{◌≡◌, ℕ, zero, suc, ◌+◌, ◌-◌, ◌<◌, ◌≤◌, min, List, [], ◌∷◌, ◌++◌, length, get_or, take, drop, replicate, sym, refl, ap, ◌∙◌, ⊎_elim, zero-add, arith}
+use Rattle.std.proofs.Common.{◌≡◌, ℕ, zero, suc, ◌+◌, ◌-◌, ◌<◌, ◌≤◌, min, List, [], ◌∷◌, ◌++◌, length, get_or, take, drop, replicate, sym, refl, ap, ◌∙◌, ⊎_elim, arith}
 use lib.Seq.{drop-append-add, take-append-add}
 use Rattle.std.proofs.lemmas.List.{length-append, length-take, length-replicate, take_all, take_at, take-take, drop_all, drop-drop, drop-take, append-nil, get_or-take, get_or_past, take-append-le, take-replicate, drop-replicate}
 use Rattle.std.proofs.lemmas.Bool.{cases_lt}
@@ -56,18 +56,10 @@ module _ {X : Type 0} where
           rw (all, take_all (length xs) xs (omega arith), drop-replicate (length xs) n d)
           (sym (ap (λ k. take k (xs ++ replicate n d)) (sym rest) ∙ take-append-add xs (replicate n d) (n - length xs) ∙ ap (λ l. xs ++ l) (take-replicate (n - length xs) n d (omega arith))))
 
--- a part of the n bytes from a on: k bytes from i on, within them and past them
-module _ (a n i k : ℕ) (bs : List ℕ) where
-  pub part_within : i + k ≤ n → bytes_at i k (bytes_at a n bs) ≡ bytes_at (a + i) k bs
-  part_within h =
-      let m : i + (n - i) ≡ n = omega arith in
-      let inner : drop i (take n (drop a bs)) ≡ take (n - i) (drop (a + i) bs) =
-      ap (λ l. drop i (take l (drop a bs))) (sym m) ∙ drop-take i (n - i) (drop a bs) ∙ ap (take (n - i)) (drop-drop i a bs) in
-      ap (take k) inner ∙ take-take k (n - i) (drop (a + i) bs) (omega arith)
-
-  pub part_past : n ≤ i → bytes_at i k (bytes_at a n bs) ≡ []
-  part_past h = ap (take k) (drop_all i (bytes_at a n bs) (omega (arith, length-take n (drop a bs)))) ∙ take_all k [] (omega arith)
-
--- a part of the first n bytes
-pub part_of_front : (n i k : ℕ) (bs : List ℕ) → i + k ≤ n → bytes_at i k (bytes_at 0 n bs) ≡ bytes_at i k bs
-part_of_front n i k bs h = part_within 0 n i k bs h ∙ ap (λ j. bytes_at j k bs) (zero-add i)
+-- a part of the n bytes from a on: k bytes from i on
+pub part_within : (a n i k : ℕ) (bs : List ℕ) → i + k ≤ n → bytes_at i k (bytes_at a n bs) ≡ bytes_at (a + i) k bs
+part_within a n i k bs h =
+    let m : i + (n - i) ≡ n = omega arith in
+    let inner : drop i (take n (drop a bs)) ≡ take (n - i) (drop (a + i) bs) =
+    ap (λ l. drop i (take l (drop a bs))) (sym m) ∙ drop-take i (n - i) (drop a bs) ∙ ap (take (n - i)) (drop-drop i a bs) in
+    ap (take k) inner ∙ take-take k (n - i) (drop (a + i) bs) (omega arith)

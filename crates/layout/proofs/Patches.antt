@@ -1,9 +1,11 @@
 -- What writes to parts of a slice leave.
-use Rattle.std.proofs.Common.{◌≡◌, ℕ, ◌+◌, ◌-◌, ◌≤◌, ◌⊎◌, List, [], ◌++◌, length, take, drop, sym, refl, ap, ◌∙◌, ⊎_elim, zero-add, arith}
+use Rattle.std.proofs.Common.{◌≡◌, ℕ, ◌+◌, ◌-◌, ◌*◌, ◌<◌, ◌≤◌, ◌⊎◌, List, [], ◌∷◌, ◌++◌, length, get_or, take, drop, sym, refl, ap, ◌∙◌, ⊎_elim, zero-add, arith}
+use Rattle.std.specs.List.{flat_map}
 use borrow.Rule.Slice.PartMut.{put_mid}
-use Rattle.std.proofs.lemmas.List.{append_assoc, append-nil, length-append, length-take-le, drop-drop, drop_all, drop_at, drop-take, drop-append-le, take_at, take-append-le, take-append-drop}
+use Rattle.std.proofs.lemmas.List.{append_assoc, append-nil, length-append, length-take-le, drop-drop, drop_all, drop_at, drop-take, drop-append-le, take_at, take-append-le, take-append-drop, take_more, flat_map_more}
 use Rattle.std.proofs.lemmas.Slice.{take-put_mid_below, drop-put_mid}
 use Rattle.layout.specs.Numbers.{bytes_at, patched}
+use Rattle.layout.proofs.Bytes.{length_joined}
 use Rattle.layout.proofs.Parts.{behind}
 
 -- a write of ys, which are zs, to `s[a..e]`
@@ -25,6 +27,15 @@ module _ (a : ℕ) (old : List ℕ) (within : a ≤ length old) where
       behind (take a old ++ xs) (drop (a + length xs) old) (a + n) (length ys) at ∙ drop-drop (length ys) (a + length xs) old
       ∙ ap (λ k. drop k old) (omega (arith, length-append xs ys)) in
       rw (regroup, take_at (take a old ++ xs) (drop (a + length xs) old) (a + n) at, back) (simp append_assoc)
+
+-- one more of the parts that stand one after another from a on
+pub patched_more : {X : Type 0} (f : X → List ℕ) (n a : ℕ) (old : List ℕ) → ((x : X) → length (f x) ≡ n) → a ≤ length old → (xs : List X) (i : ℕ) (x : X) → i < length xs → x ≡ get_or xs i x
+    → {bs bs' : List ℕ} → bs ≡ patched a (flat_map f (take i xs)) old → bs' ≡ patched (a + n * i) (f x) bs → bs' ≡ patched a (flat_map f (take (i + 1) xs)) old
+patched_more f n a old len room xs i x within is {bs} {bs'} p q =
+    let done = flat_map f (take i xs) in
+    let long : length (flat_map f (take i xs)) ≡ n * i = length_joined f n len (take i xs) ∙ ap (λ k. n * k) (length-take-le i xs (omega arith)) in
+    let next : take i xs ++ (x ∷ []) ≡ take (i + 1) xs = ap (λ y. take i xs ++ (y ∷ [])) is ∙ sym (take_more xs i x within) in
+    q ∙ ap (patched (a + n * i) (f x)) p ∙ patched_patched a old room done (f x) (n * i) long ∙ ap (λ new. patched a new old) (flat_map_more f [] (take i xs) x ∙ ap (flat_map f) next)
 
 -- a write to the front part of a list
 pub patched_append : (i : ℕ) (new xs ys : List ℕ) → i + length new ≤ length xs → patched i new (xs ++ ys) ≡ patched i new xs ++ ys

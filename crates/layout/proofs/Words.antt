@@ -1,7 +1,10 @@
 -- The bytes before the first zero.
-use Rattle.std.proofs.Common.{◌≡◌, ℕ, zero, suc, ◌+◌, ◌<◌, ◌≤◌, List, [], ◌∷◌, ◌++◌, length, get_or, take, drop, replicate, refl, ap, ◌∙◌, arith}
-use Rattle.std.specs.List.{AllByRecursion}
-use Rattle.std.proofs.lemmas.List.{at_drop_more}
+use Rattle.std.proofs.Common.{◌≡◌, ℕ, zero, suc, ◌+◌, ◌<◌, ◌≤◌, List, [], ◌∷◌, ◌++◌, length, take, replicate, ⊎_elim, refl, ap, ◌∙◌, Option, Some, None, cond, ltb, eqb, arith}
+use Rattle.std.specs.List.{AllByRecursion, position, position_or_len}
+use Rattle.std.specs.Option.{unwrap_or}
+use Rattle.std.proofs.lemmas.List.Recursion.{is_position_or_len}
+use Rattle.std.proofs.lemmas.Bool.{cases_lt, lt-ltb, le-ltb}
+use Rattle.std.proofs.lemmas.Bool.Decides.{nat_tests}
 use Rattle.layout.specs.Numbers.{fit}
 use Rattle.layout.specs.Entries.{until_zero}
 
@@ -10,21 +13,23 @@ take_until_zero [] = refl
 take_until_zero (zero ∷ bs) = refl
 take_until_zero (suc b ∷ bs) = ap (λ l. suc b ∷ l) (take_until_zero bs)
 
--- a loop over the bytes: what is counted so far and what is left add up
-until_stop : (b : ℕ) (bs : List ℕ) → b ≡ 0 → until_zero (b ∷ bs) ≡ []
-until_stop zero bs e = refl
-until_stop (suc b) bs e = absurd (omega arith)
+until_short : (bs : List ℕ) → length (until_zero bs) ≤ length bs
+until_short [] = omega arith
+until_short (zero ∷ bs) = omega arith
+until_short (suc b ∷ bs) = omega (arith, until_short bs)
 
-until_step : (b : ℕ) (bs : List ℕ) → (b ≡ 0 → ⊥) → length (until_zero (b ∷ bs)) ≡ suc (length (until_zero bs))
-until_step zero bs ne = absurd (ne refl)
-until_step (suc b) bs ne = refl
+until_step : (b : ℕ) (bs : List ℕ) → length (until_zero (b ∷ bs)) ≡ cond (eqb b 0) 0 (1 + length (until_zero bs))
+until_step zero bs = refl
+until_step (suc b) bs = grind (arith, nat_tests)
 
-module _ (bs : List ℕ) (i : ℕ) (within : i < length bs) where
-  pub until_here : get_or bs i 0 ≡ 0 → length (until_zero (drop i bs)) ≡ 0
-  until_here e = ap length (at_drop_more until_zero bs i 0 within ∙ until_stop (get_or bs i 0) (drop (i + 1) bs) e)
-
-  pub until_more : (get_or bs i 0 ≡ 0 → ⊥) → length (until_zero (drop i bs)) ≡ suc (length (until_zero (drop (i + 1) bs)))
-  until_more ne = ap length (at_drop_more until_zero bs i 0 within) ∙ until_step (get_or bs i 0) (drop (i + 1) bs) ne
+-- the place of the first zero, or the length where there is none
+pub until_found : (bs : List ℕ) (found : Option ℕ) → found ≡ position (λ b. eqb b 0) bs → unwrap_or found (length bs) ≡ length (until_zero bs)
+until_found bs found e =
+    let at : length (until_zero bs) ≡ position_or_len (λ b. eqb b 0) bs = is_position_or_len (λ bs. length (until_zero bs)) (λ b. eqb b 0) refl until_step bs in
+    rw (e, ← at) (placed (length (until_zero bs)) (length bs) (until_short bs))
+  where
+    placed : (m n : ℕ) → m ≤ n → unwrap_or (cond (ltb m n) (Some m) None) n ≡ m
+    placed m n h = ⊎_elim (λ (lt : m < n). ap (λ b. unwrap_or (cond b (Some m) None) n) (lt-ltb m n lt)) (λ (le : n ≤ m). ap (λ b. unwrap_or (cond b (Some m) None) n) (le-ltb m n le) ∙ omega arith) (cases_lt m n)
 
 -- a word without zeros, filled with zeros
 until_cut : (n : ℕ) (bs zs : List ℕ) → AllByRecursion (λ b. 0 < b) bs → length bs < n → until_zero (take n (bs ++ (0 ∷ zs))) ≡ bs

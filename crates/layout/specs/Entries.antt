@@ -1,10 +1,11 @@
 -- Entries of 72 bytes, of which a directory block has seven.
-use Rattle.std.specs.Prelude.{ℕ, zero, suc, ◌+◌, ◌-◌, ◌*◌, ◌/◌, ◌%◌, Bool, cond, ◌&&◌, ◌||◌, List, [], ◌∷◌, ◌++◌, length, drop, ◌==◌, nat_le, nat_lt}
+use Rattle.std.specs.Prelude.{◌≡◌, ◌≢◌, ℕ, zero, suc, ◌+◌, ◌-◌, ◌*◌, ◌/◌, ◌%◌, Bool, cond, ◌&&◌, ◌||◌, List, [], ◌∷◌, ◌++◌, length, drop, ◌==◌, nat_le, nat_lt, Result, MatchResult}
 use Rattle.std.specs.List.{range_with_len, flat_map}
 use Rattle.plain.specs.Names.{every, is_name}
 use Rattle.layout.specs.declared.block.Tag.TheVariants as tag
 use Rattle.layout.specs.declared.entry.Mode.{Mode}
 use Rattle.layout.specs.declared.entry.Mode.TheVariants.{File, Directory}
+use Rattle.layout.specs.declared.entry.NoSuchMode.{NoSuchMode}
 use Rattle.layout.specs.declared.entry.Entry as code
 use Rattle.layout.specs.declared.pointer.Pointer.{Pointer}
 use Rattle.layout.specs.declared.pointer.Pointer.TheVariants.{Direct, Indirect}
@@ -25,6 +26,16 @@ pub record Entry : Type 0 where
 abbrev pub mode_number : Mode → ℕ
 mode_number File = 0x8000
 mode_number Directory = 0xC000
+
+-- the number of no mode is refused
+pub record NoMode (number : ℕ) (refused : NoSuchMode) : Type 0 where
+  pub is : refused.0 ≡ number
+  pub no_file : number ≢ mode_number File
+  pub no_directory : number ≢ mode_number Directory
+
+-- the mode that has this number, where one has it
+abbrev pub ReadsMode : ℕ → Result Mode NoSuchMode → Type 0
+ReadsMode number read = MatchResult read (λ mode. mode_number mode ≡ number) (NoMode number)
 
 -- what an entry of the code says
 abbrev pub shown : code.Entry → Entry

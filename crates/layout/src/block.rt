@@ -1,14 +1,16 @@
 //! Blocks: new ones, a view of a block's 512 bytes, and writers of single entries and addresses.
-ghost use Rattle.std.specs.Prelude.{◌≡◌, ◌*◌, replicate, if◌then◌else◌, nat_lt};
+ghost use Rattle.std.specs.Prelude.{◌≡◌, ◌*◌, replicate, if◌then◌else◌, nat_lt, is_ok, Some, codes};
 ghost use Rattle.layout.specs.Numbers.{bytes32, patched};
 ghost use Rattle.layout.specs.Blocks.{tag_number, pad_of, tag_of, owner_of, legal_pad, block, address_of};
 ghost use Rattle.layout.specs.Entries.{shown, empty_entry, entry_bytes, entry_at};
 ghost use Rattle.layout.specs.Supers.{legal_super};
 
 use crate::entry::{ENTRY_LEN, Entry, EntryView};
-use crate::numbers::{get_u16, get_u32, is_all_zero, put_u16, put_u32};
+use crate::numbers::{get, is_all_zero, nth_number, put};
 use crate::super_block::NUMBERS_LEN;
 use device::fault::BLOCK_LEN;
+use std::error::Error;
+use std::fmt;
 
 /// The bytes of a block's body, which come first.
 pub const BODY_LEN: usize = 504;
@@ -38,63 +40,77 @@ pub enum Tag {
     File = 5,
 }
 
-impl Tag {
-    /// The number that stands for the tag in a block.
-    pub fn number(self) -> u16
-        ensures { result ≡ tag_number self }
-    {
-        self as u16
+/// The number that stands for the tag in a block.
+impl From<Tag> for u16 {
+    ghost from_gives = { λ tag number. number ≡ tag_number tag };
+
+    fn from(tag: Tag) -> u16 {
+        tag as u16
     }
 }
+
+/// There is no such place: a directory block has seven entries, and an indirect block 126 addresses.
+#[derive(Clone, Copy, PartialEq, Eq, Debug)]
+pub struct NoSuchPlace;
+
+impl fmt::Display for NoSuchPlace {
+    ghost output = { λ _. Some (codes "there is no such place in the block") };
+
+    fn fmt<W: fmt::Write>(&self, f: &mut fmt::Formatter<W>) -> fmt::Result {
+        f.write_str("there is no such place in the block")
+    }
+}
+
+impl Error for NoSuchPlace {}
 
 /// A block with this tag and owner, and nothing but zeros in its body.
 pub fn new_block(tag: Tag, owner: u32) -> [u8; BLOCK_LEN]
     ensures { result ≡ block (tag_number tag) owner (replicate 504 0) }
 {
     let mut bytes = [0u8; BLOCK_LEN];
-    put_u16(&mut bytes, TAG_AT, tag.number());
-    put_u32(&mut bytes, OWNER_AT, owner);
+    put(&mut bytes, TAG_AT, u16::from(tag));
+    put(&mut bytes, OWNER_AT, owner);
     bytes
 }
 
-/// Writes the k-th entry of a directory block. From 7 on there is none: the answer is false, and nothing changes.
-pub fn write_entry(bytes: &mut [u8; BLOCK_LEN], k: usize, entry: &Entry) -> bool
-    ensures done { result ≡ nat_lt k 7 }
-    ensures after { bytes.new ≡ (if result then patched (72 * k) (entry_bytes (shown entry.now)) bytes.old else bytes.old) }
+/// Writes the k-th entry of a directory block. From 7 on there is none, and nothing changes.
+pub fn write_entry(bytes: &mut [u8; BLOCK_LEN], k: usize, entry: &Entry) -> Result<(), NoSuchPlace>
+    ensures done { is_ok result ≡ nat_lt k 7 }
+    ensures after { bytes.new ≡ (if is_ok result then patched (72 * k) (entry_bytes (shown entry.now)) bytes.old else bytes.old) }
 {
     if k >= ENTRY_COUNT {
-        return false;
+        return Err(NoSuchPlace);
     }
     entry.write_to(&mut bytes[ENTRY_LEN * k..ENTRY_LEN * k + ENTRY_LEN]);
-    true
+    Ok(())
 }
 
-/// Makes the k-th place of a directory block empty. From 7 on there is none: the answer is false, and nothing changes.
-pub fn clear_entry(bytes: &mut [u8; BLOCK_LEN], k: usize) -> bool
-    ensures done { result ≡ nat_lt k 7 }
-    ensures after { bytes.new ≡ (if result then patched (72 * k) (entry_bytes empty_entry) bytes.old else bytes.old) }
+/// Makes the k-th place of a directory block empty. From 7 on there is none, and nothing changes.
+pub fn clear_entry(bytes: &mut [u8; BLOCK_LEN], k: usize) -> Result<(), NoSuchPlace>
+    ensures done { is_ok result ≡ nat_lt k 7 }
+    ensures after { bytes.new ≡ (if is_ok result then patched (72 * k) (entry_bytes empty_entry) bytes.old else bytes.old) }
 {
     if k >= ENTRY_COUNT {
-        return false;
+        return Err(NoSuchPlace);
     }
-    bytes[ENTRY_LEN * k..ENTRY_LEN * k + ENTRY_LEN].copy_from_slice(&EMPTY_PLACE);
-    true
+    bytes[ENTRY_LEN * k..ENTRY_LEN * k + ENTRY_LEN].fill(0);
+    Ok(())
 }
 
-/// Writes the j-th address of an indirect block. From 126 on there is none: the answer is false, and nothing changes.
-pub fn write_address(bytes: &mut [u8; BLOCK_LEN], j: usize, address: u32) -> bool
-    ensures done { result ≡ nat_lt j 126 }
-    ensures after { bytes.new ≡ (if result then patched (4 * j) (bytes32 address) bytes.old else bytes.old) }
+/// Writes the j-th address of an indirect block. From 126 on there is none, and nothing changes.
+pub fn write_address(bytes: &mut [u8; BLOCK_LEN], j: usize, address: u32) -> Result<(), NoSuchPlace>
+    ensures done { is_ok result ≡ nat_lt j 126 }
+    ensures after { bytes.new ≡ (if is_ok result then patched (4 * j) (bytes32 address) bytes.old else bytes.old) }
 {
     if j >= ADDRESS_COUNT {
-        return false;
+        return Err(NoSuchPlace);
     }
-    put_u32(bytes, 4 * j, address);
-    true
+    put(bytes, 4 * j, address);
+    Ok(())
 }
 
 /// A view of the 512 bytes of a block, whatever they hold.
-#[derive(Clone, Copy)]
+#[derive(Clone, Copy, PartialEq, Eq, Debug)]
 pub struct BlockView<'a> {
     pub(crate) bytes: &'a [u8; BLOCK_LEN],
 }
@@ -109,23 +125,20 @@ impl<'a> BlockView<'a> {
     pub fn pad(&self) -> u16
         ensures { result ≡ pad_of self.now.bytes.now }
     {
-        let bytes = self.bytes;
-        get_u16(bytes, PAD_AT)
+        get(self.bytes, PAD_AT)
     }
 
-    /// The tag's number, which may stand for no tag.
+    /// The tag's number, and no `Tag`, since a block may hold any bytes.
     pub fn tag(&self) -> u16
         ensures { result ≡ tag_of self.now.bytes.now }
     {
-        let bytes = self.bytes;
-        get_u16(bytes, TAG_AT)
+        get(self.bytes, TAG_AT)
     }
 
     pub fn owner(&self) -> u32
         ensures { result ≡ owner_of self.now.bytes.now }
     {
-        let bytes = self.bytes;
-        get_u32(bytes, OWNER_AT)
+        get(self.bytes, OWNER_AT)
     }
 
     /// Whether the pad is one that a block may have.
@@ -140,11 +153,8 @@ impl<'a> BlockView<'a> {
         ensures { result.bytes.now ≡ entry_at k self.now.bytes.now }
     {
         let bytes = self.bytes;
-        if k < ENTRY_COUNT {
-            EntryView::new(&bytes[ENTRY_LEN * k..ENTRY_LEN * k + ENTRY_LEN])
-        } else {
-            EntryView::new(&EMPTY_PLACE)
-        }
+        let (entries, _) = bytes[..BODY_LEN].as_chunks::<ENTRY_LEN>();
+        EntryView::new(entries.get(k).unwrap_or(&EMPTY_PLACE))
     }
 
     /// The j-th address of an indirect block, and 0 from 126 on.
@@ -152,11 +162,7 @@ impl<'a> BlockView<'a> {
         ensures { result ≡ address_of j self.now.bytes.now }
     {
         let bytes = self.bytes;
-        if j < ADDRESS_COUNT {
-            get_u32(bytes, 4 * j)
-        } else {
-            0
-        }
+        nth_number(&bytes[..BODY_LEN], j)
     }
 
     /// Whether the block is a super, whatever its numbers are.
@@ -165,7 +171,7 @@ impl<'a> BlockView<'a> {
     {
         let bytes = self.bytes;
         self.pad_is_legal()
-            && self.tag() == Tag::Super.number()
+            && self.tag() == u16::from(Tag::Super)
             && self.owner() == 0
             && is_all_zero(&bytes[NUMBERS_LEN..BODY_LEN])
     }

@@ -1,11 +1,14 @@
 //! Entries of directory blocks: a view of an entry's 72 bytes, and an entry by its values.
-ghost use Rattle.std.specs.Prelude.{◌≡◌, ◌≤◌, length, Decides, ◌==◌};
+ghost use Rattle.std.specs.Prelude.{◌≡◌, ◌↔◌, ◌++◌, length, drop, IsTrue, ◌==◌, Some, codes};
+ghost use Rattle.std.specs.Fmt.{decimal};
 ghost use Rattle.layout.specs.Numbers.{bytes_at, fit};
-ghost use Rattle.layout.specs.Entries.{mode_number, shown, entry_bytes, until_zero, name_of, mode_of, reserved_of, qid_of, version_of, size_of, direct_of, indirect_of, legal_address, legal_addresses, legal_size, legal_name_field, legal_entry};
+ghost use Rattle.layout.specs.Entries.{mode_number, ReadsMode, shown, entry_bytes, until_zero, name_of, mode_of, reserved_of, qid_of, version_of, size_of, direct_of, indirect_of, legal_address, legal_addresses, legal_size, legal_name_field, legal_entry};
 
 use crate::block::{ADDRESS_COUNT, BODY_LEN};
-use crate::numbers::{get_u16, get_u32, is_all_zero, put_u16, put_u32, put_u32s};
+use crate::numbers::{get, is_all_zero, nth_number, put, put_all};
 use plain::name::is_name;
+use std::error::Error;
+use std::fmt;
 
 /// The bytes of an entry.
 pub const ENTRY_LEN: usize = 72;
@@ -44,17 +47,46 @@ pub enum Mode {
     Directory = 0xC000,
 }
 
-impl Mode {
-    /// The number that stands for the mode in an entry.
-    pub fn number(self) -> u16
-        ensures { result ≡ mode_number self }
-    {
-        self as u16
+/// The number that stands for the mode in an entry.
+impl From<Mode> for u16 {
+    ghost from_gives = { λ mode number. number ≡ mode_number mode };
+
+    fn from(mode: Mode) -> u16 {
+        mode as u16
     }
 }
 
+/// A number that stands for no mode.
+#[derive(Clone, Copy, PartialEq, Eq, Debug)]
+pub struct NoSuchMode(pub u16);
+
+/// The mode that a number stands for.
+impl TryFrom<u16> for Mode {
+    type Error = NoSuchMode;
+
+    ghost try_from_gives = { ReadsMode };
+
+    fn try_from(number: u16) -> Result<Mode, NoSuchMode> {
+        match number {
+            0x8000 => Ok(Mode::File),
+            0xC000 => Ok(Mode::Directory),
+            _ => Err(NoSuchMode(number)),
+        }
+    }
+}
+
+impl fmt::Display for NoSuchMode {
+    ghost output = { λ it. Some (decimal it.0 ++ codes " stands for no mode") };
+
+    fn fmt<W: fmt::Write>(&self, f: &mut fmt::Formatter<W>) -> fmt::Result {
+        write!(f, "{} stands for no mode", self.0)
+    }
+}
+
+impl Error for NoSuchMode {}
+
 /// An entry by its values. The name is filled with zeros, and addresses that are not used are 0.
-#[derive(Clone, Copy)]
+#[derive(Clone, Copy, PartialEq, Eq, Debug)]
 pub struct Entry {
     pub name: [u8; NAME_LEN],
     pub mode: Mode,
@@ -72,84 +104,77 @@ impl Entry {
         ensures { place.new ≡ entry_bytes (shown self.now) }
     {
         place[0..NAME_LEN].copy_from_slice(&self.name);
-        put_u16(place, MODE_AT, self.mode.number());
-        put_u16(place, RESERVED_AT, 0);
-        put_u32s(place, QID_AT, &[self.qid, self.version, self.size]);
-        put_u32s(place, DIRECT_AT, &self.direct);
-        put_u32(place, INDIRECT_AT, self.indirect);
+        put(place, MODE_AT, u16::from(self.mode));
+        put(place, RESERVED_AT, 0u16);
+        put_all(place, QID_AT, &[self.qid, self.version, self.size]);
+        put_all(place, DIRECT_AT, &self.direct);
+        put(place, INDIRECT_AT, self.indirect);
     }
 }
 
 /// A view of the 72 bytes of an entry.
-#[derive(Clone, Copy)]
+#[derive(Clone, Copy, PartialEq, Eq, Debug)]
 pub struct EntryView<'a> {
-    bytes: &'a [u8],
-    ghost whole: { length bytes.now ≡ 72 },
+    bytes: &'a [u8; ENTRY_LEN],
 }
 
 impl<'a> EntryView<'a> {
-    /// A view of 72 bytes.
-    pub(crate) fn new(bytes: &'a [u8]) -> EntryView<'a>
-        requires { length bytes.now ≡ 72 }
+    pub(crate) fn new(bytes: &'a [u8; ENTRY_LEN]) -> EntryView<'a>
         ensures { result.bytes.now ≡ bytes.now }
     {
         EntryView { bytes }
     }
 
-    /// The mode's number, and 0 of an empty place.
+    /// The mode's number, and no `Mode`: it is 0 in an empty place, and a place may hold any bytes.
     pub fn mode(&self) -> u16
         ensures { result ≡ mode_of self.now.bytes.now }
     {
-        get_u16(self.bytes, MODE_AT)
+        get(self.bytes, MODE_AT)
     }
 
     pub fn qid(&self) -> u32
         ensures { result ≡ qid_of self.now.bytes.now }
     {
-        get_u32(self.bytes, QID_AT)
+        get(self.bytes, QID_AT)
     }
 
     pub fn version(&self) -> u32
         ensures { result ≡ version_of self.now.bytes.now }
     {
-        get_u32(self.bytes, VERSION_AT)
+        get(self.bytes, VERSION_AT)
     }
 
     pub fn size(&self) -> u32
         ensures { result ≡ size_of self.now.bytes.now }
     {
-        get_u32(self.bytes, SIZE_AT)
+        get(self.bytes, SIZE_AT)
     }
 
     /// The i-th direct address, and 0 from 6 on.
     pub fn direct(&self, i: usize) -> u32
         ensures { result ≡ direct_of i self.now.bytes.now }
     {
-        if i < DIRECT_COUNT {
-            get_u32(self.bytes, DIRECT_AT + 4 * i)
-        } else {
-            0
-        }
+        let bytes = self.bytes;
+        nth_number(&bytes[DIRECT_AT..INDIRECT_AT], i)
     }
 
     pub fn indirect(&self) -> u32
         ensures { result ≡ indirect_of self.now.bytes.now }
     {
-        get_u32(self.bytes, INDIRECT_AT)
+        get(self.bytes, INDIRECT_AT)
     }
 
     /// The name, without the zeros after it.
     pub fn name(&self) -> &'a [u8]
         ensures { result.now ≡ name_of self.now.bytes.now }
     {
-        let name = &self.bytes[0..NAME_LEN];
-        let len = len_until_zero(name);
-        &name[0..len]
+        let bytes = self.bytes;
+        split_at_zero(&bytes[..NAME_LEN]).0
     }
 
     /// Whether the name is this one.
     pub fn name_is(&self, name: &[u8]) -> bool
-        ensures { Decides result (name_of self.now.bytes.now ≡ name.now) }
+        ensures { IsTrue result ↔ (name_of self.now.bytes.now ≡ name.now) }
     {
         self.name() == name
     }
@@ -165,7 +190,8 @@ impl<'a> EntryView<'a> {
     pub fn is_legal(&self, limit: u32, next_qid: u32) -> bool
         ensures { result ≡ legal_entry limit next_qid self.now.bytes.now }
     {
-        is_all_zero(self.bytes)
+        let bytes = self.bytes;
+        is_all_zero(bytes)
             || (self.size_is_legal()
                 && self.name_is_legal()
                 && self.reserved() == 0
@@ -177,21 +203,18 @@ impl<'a> EntryView<'a> {
     fn reserved(&self) -> u16
         ensures { result ≡ reserved_of self.now.bytes.now }
     {
-        get_u16(self.bytes, RESERVED_AT)
+        get(self.bytes, RESERVED_AT)
     }
 
     /// Whether the entry is of a file or of a directory, and the size is one that such a thing can have.
     fn size_is_legal(&self) -> bool
         ensures { result ≡ legal_size (mode_of self.now.bytes.now) (size_of self.now.bytes.now) }
     {
-        let mode = self.mode();
         let size = self.size() as usize;
-        if mode == Mode::File.number() {
-            size <= FILE_MOST
-        } else if mode == Mode::Directory.number() {
-            size % BODY_LEN == 0 && size <= DIRECTORY_MOST
-        } else {
-            false
+        match Mode::try_from(self.mode()) {
+            Ok(Mode::File) => size <= FILE_MOST,
+            Ok(Mode::Directory) => size % BODY_LEN == 0 && size <= DIRECTORY_MOST,
+            Err(_) => false,
         }
     }
 
@@ -199,9 +222,9 @@ impl<'a> EntryView<'a> {
     fn name_is_legal(&self) -> bool
         ensures { result ≡ legal_name_field (bytes_at 0 28 self.now.bytes.now) }
     {
-        let field = &self.bytes[0..NAME_LEN];
-        let len = len_until_zero(field);
-        is_name(&field[0..len]) && is_all_zero(&field[len..NAME_LEN])
+        let bytes = self.bytes;
+        let (name, rest) = split_at_zero(&bytes[..NAME_LEN]);
+        is_name(name) && is_all_zero(rest)
     }
 
     /// Whether the addresses that the size asks for are in range, and the others 0.
@@ -209,12 +232,8 @@ impl<'a> EntryView<'a> {
         ensures { result ≡ legal_addresses limit self.now.bytes.now }
     {
         let blocks = (self.size() as usize).div_ceil(BODY_LEN);
-        for i in 0..DIRECT_COUNT {
-            if !address_is_legal(limit, i < blocks, self.direct(i)) {
-                return false;
-            }
-        }
-        address_is_legal(limit, DIRECT_COUNT < blocks, self.indirect())
+        (0..DIRECT_COUNT).all(|i| address_is_legal(limit, i < blocks, self.direct(i)))
+            && address_is_legal(limit, DIRECT_COUNT < blocks, self.indirect())
     }
 }
 
@@ -223,7 +242,7 @@ fn address_is_legal(limit: u32, used: bool, address: u32) -> bool
     ensures { result ≡ legal_address limit used address }
 {
     if used {
-        address >= 2 && address < limit
+        (2..limit).contains(&address)
     } else {
         address == 0
     }
@@ -235,19 +254,15 @@ pub fn name_field(name: &[u8]) -> [u8; NAME_LEN]
 {
     let mut field = [0; NAME_LEN];
     let len = name.len().min(NAME_LEN);
-    field[0..len].copy_from_slice(&name[0..len]);
+    field[..len].copy_from_slice(&name[..len]);
     field
 }
 
-/// How many bytes there are before the first zero.
-fn len_until_zero(bytes: &[u8]) -> usize
-    ensures len { result ≡ length (until_zero bytes.now) }
-    ensures within { result ≤ length bytes.now }
+/// The bytes before the first zero, and the others.
+fn split_at_zero(bytes: &[u8]) -> (&[u8], &[u8])
+    ensures front { result.0.now ≡ until_zero bytes.now }
+    ensures back { result.1.now ≡ drop (length (until_zero bytes.now)) bytes.now }
 {
-    for (i, byte) in bytes.iter().enumerate() {
-        if *byte == 0 {
-            return i;
-        }
-    }
-    bytes.len()
+    let zero = bytes.iter().position(|byte| *byte == 0);
+    bytes.split_at(zero.unwrap_or(bytes.len()))
 }

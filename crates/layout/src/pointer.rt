@@ -6,7 +6,7 @@ use crate::block::BODY_LEN;
 use crate::entry::DIRECT_COUNT;
 
 /// Where the address of a file's block stands: among the direct addresses of its entry, or in its indirect block.
-#[derive(Clone, Copy)]
+#[derive(Clone, Copy, PartialEq, Eq, Debug)]
 pub enum Pointer {
     Direct(usize),
     Indirect(usize),

@@ -20,6 +20,6 @@ pub fn root_block() -> [u8; BLOCK_LEN]
         direct: [0; DIRECT_COUNT],
         indirect: 0,
     };
-    write_entry(&mut bytes, 0, &root);
+    write_entry(&mut bytes, 0, &root).unwrap();
     bytes
 }

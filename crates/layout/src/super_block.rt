@@ -3,7 +3,7 @@ ghost use Rattle.std.specs.Prelude.{◌≡◌};
 ghost use Rattle.layout.specs.Supers.{super_block, super_of};
 
 use crate::block::{BlockView, Tag, new_block};
-use crate::numbers::{get_u32, put_u32s};
+use crate::numbers::{get, put_all};
 use device::fault::BLOCK_LEN;
 
 /// The bytes of the six numbers, with which the body begins.
@@ -25,12 +25,12 @@ pub struct Super {
 }
 
 impl Super {
-    /// The block that says it.
+    /// The block that says it. An array is no type of ours: a conversion would read `<[u8; BLOCK_LEN]>::from(..)`.
     pub fn to_block(&self) -> [u8; BLOCK_LEN]
         ensures { result ≡ super_block self.now }
     {
         let mut bytes = new_block(Tag::Super, 0);
-        put_u32s(
+        put_all(
             &mut bytes,
             0,
             &[
@@ -44,19 +44,21 @@ impl Super {
         );
         bytes
     }
+}
 
-    /// What a block says as a super, whether it is one or not.
-    pub fn from_view(view: &BlockView<'_>) -> Super
-        ensures { result ≡ super_of view.now.bytes.now }
-    {
+/// What a block says as a super, whether it is one or not.
+impl From<BlockView<'_>> for Super {
+    ghost from_gives = { λ view says. says ≡ super_of view.bytes.now };
+
+    fn from(view: BlockView<'_>) -> Super {
         let bytes = view.bytes;
         Super {
-            number: get_u32(bytes, 0),
-            date: get_u32(bytes, 4),
-            root: get_u32(bytes, 8),
-            previous: get_u32(bytes, 12),
-            next: get_u32(bytes, 16),
-            next_qid: get_u32(bytes, 20),
+            number: get(bytes, 0),
+            date: get(bytes, 4),
+            root: get(bytes, 8),
+            previous: get(bytes, 12),
+            next: get(bytes, 16),
+            next_qid: get(bytes, 20),
         }
     }
 }

@@ -29,7 +29,7 @@ const DATA: u32 = 5;
 /// The address that is kept for the next super.
 const NEXT_SUPER: u32 = 14;
 
-/// The blocks of the file, of which the indirect block names all but six.
+/// The blocks of the file: six that its entry names, and three that its indirect block does.
 const FILE_BLOCKS: u32 = 9;
 
 /// The qids of the directory "/" and of the file.
@@ -45,11 +45,11 @@ pub(crate) fn lay_out<D: Device>(rt: &impl Print, pile: &mut D) -> io::Result<()
     let indirect = pile.write(INDIRECT, &indirect_block());
     report(rt, "block 4, its indirect block", indirect)?;
     let mut bytes = new_block(Tag::Directory, ROOT_QID);
-    write_entry(&mut bytes, 0, &file_entry());
+    write_entry(&mut bytes, 0, &file_entry()).unwrap();
     let directory = pile.write(DIRECTORY, &bytes);
     report(rt, "block 3, the directory block", directory)?;
     bytes = root_block();
-    write_entry(&mut bytes, 0, &root_entry());
+    write_entry(&mut bytes, 0, &root_entry()).unwrap();
     let root = pile.write(ROOT, &bytes);
     report(rt, "block 2, the root block", root)?;
     let first = Super {
@@ -97,8 +97,9 @@ fn file_block(j: usize) -> [u8; BLOCK_LEN]
 /// The file's indirect block.
 fn indirect_block() -> [u8; BLOCK_LEN] {
     let mut bytes = new_block(Tag::Indirect, FILE_QID);
-    for (j, address) in (DATA + 6..DATA + FILE_BLOCKS).enumerate() {
-        write_address(&mut bytes, j, address);
+    let addresses = [DATA + 6, DATA + 7, DATA + 8];
+    for (j, address) in addresses.iter().enumerate() {
+        write_address(&mut bytes, j, *address).unwrap();
     }
     bytes
 }

@@ -26,7 +26,7 @@ pub(crate) fn show_tree<D: Device>(rt: &impl Print, pile: &mut D) -> io::Result<
         root,
         next_qid,
         ..
-    } = Super::from_view(&view);
+    } = Super::from(view);
     println!(rt; "super {number} of {date}: root block {root}, next qid {next_qid}")?;
     if let Err(fault) = pile.read(root, &mut bytes) {
         return println!(rt; "root block: {fault}");
@@ -67,10 +67,9 @@ fn show_directory<D: Device>(
 /// Prints what an entry says.
 fn show_entry(rt: &impl Print, entry: EntryView<'_>) -> io::Result<()> {
     let name = str::from_utf8(entry.name()).unwrap_or("of no text");
-    let kind = if entry.mode() == Mode::Directory.number() {
-        "directory"
-    } else {
-        "file"
+    let kind = match Mode::try_from(entry.mode()) {
+        Ok(Mode::Directory) => "directory",
+        _ => "file",
     };
     let qid = entry.qid();
     let version = entry.version();

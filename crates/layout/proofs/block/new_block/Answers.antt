@@ -4,4 +4,4 @@ use Rattle.layout.proofs.block.new_block.Goals as goal
 
 pub returns : goal.returns
 unfolding block patched bytes16 bytes32
-returns c = simp (c.put_u32.ensures, c.put_u16.ensures, c.number.ensures)
+returns c = simp (c.put-2.ensures, c.put.ensures, c.from.ensures)

@@ -10,6 +10,6 @@ returns c =
     let old = c.args.place.now in
     let named : length e.name ≡ 28 = omega arith in
     let six : length e.direct ≡ 6 = omega arith in
-    fields_written e old named six (omega arith) c.number.ensures
+    fields_written e old named six (omega arith) c.from.ensures
     (put_is 0 28 old c.copy_from_slice.new.self e.name c.copy_from_slice.ensures.after (omega arith))
-    c.put_u16.ensures c.put_u16-2.ensures c.put_u32s.ensures c.put_u32s-2.ensures c.put_u32.ensures
+    c.put.ensures c.put-2.ensures c.put_all.ensures c.put_all-2.ensures c.put-3.ensures

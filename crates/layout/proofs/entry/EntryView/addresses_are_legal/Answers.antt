@@ -1,18 +1,24 @@
-use Rattle.std.proofs.Common.{arith}
-use Rattle.layout.proofs.Legal.{address_more, address_refused, addresses_done}
+use Rattle.std.proofs.Common.{ℕ, Bool, ltb, ◌&&◌, refl, sym, ap, ◌∙◌, rules, arith}
+use Rattle.std.proofs.lemmas.Iterator.{YieldsList-from_range}
+use Rattle.std.proofs.lemmas.Iterator.Search.{all_from_yields_List}
+use Rattle.layout.specs.Entries.{legal_address, direct_of, indirect_of}
+use Rattle.layout.proofs.Legal.{addresses_tested}
 use Rattle.layout.proofs.entry.EntryView.addresses_are_legal.Goals as goal
 
-pub loop-i-preserved : goal.loop-i-preserved
-loop-i-preserved c =
-    address_more c.args.limit c.div_ceil-blocks.result c.args.self.now.bytes.now c.loop-i.i c.direct.result c.direct.ensures c.loop-i-test.true
-    c.if-not-address_is_legal.ensures c.loop-i.invariant
+pub returns-then-all : goal.returns-then-all
+returns-then-all c =
+    let e = c.args.self.now.bytes.now in
+    let blocks = c.div_ceil-blocks.result in
+    let test : ℕ → Bool = λ i. legal_address c.args.limit (ltb i blocks) (direct_of i e) in
+    let all = all_from_yields_List test _ _ c.all.result c.all.ensures.ran (YieldsList-from_range 0 6 6 refl refl) (λ x b q k. search rules) in
+    let last = c.address_is_legal.ensures ∙ ap (legal_address c.args.limit (ltb 6 blocks)) c.indirect.ensures in
+    ap (λ b. b && c.address_is_legal.result) (sym c.if-all.true) ∙ addresses_tested c.args.limit blocks e (omega (arith, c.size.ensures, c.div_ceil-blocks.ensures)) all last
 
-pub returns-then-not-address_is_legal : goal.returns-then-not-address_is_legal
-returns-then-not-address_is_legal c =
-    address_refused c.args.limit c.div_ceil-blocks.result c.args.self.now.bytes.now c.loop-i.i c.direct.result c.direct.ensures c.loop-i-test.true
-    (omega (arith, c.size.ensures, c.div_ceil-blocks.ensures)) c.if-not-address_is_legal.ensures
-
-pub returns : goal.returns
-returns c =
-    addresses_done c.args.limit c.div_ceil-blocks.result c.args.self.now.bytes.now c.loop-i.i c.indirect.result c.loop-i-test.false c.loop-i.invariant
-    c.indirect.ensures (omega (arith, c.size.ensures, c.div_ceil-blocks.ensures)) c.address_is_legal-2.ensures
+pub returns-else-all : goal.returns-else-all
+returns-else-all c =
+    let e = c.args.self.now.bytes.now in
+    let blocks = c.div_ceil-blocks.result in
+    let test : ℕ → Bool = λ i. legal_address c.args.limit (ltb i blocks) (direct_of i e) in
+    let all = all_from_yields_List test _ _ c.all.result c.all.ensures.ran (YieldsList-from_range 0 6 6 refl refl) (λ x b q k. search rules) in
+    c.if-all.false ∙ ap (λ b. b && legal_address c.args.limit (ltb 6 blocks) (indirect_of e)) (sym c.if-all.false)
+    ∙ addresses_tested c.args.limit blocks e (omega (arith, c.size.ensures, c.div_ceil-blocks.ensures)) all refl

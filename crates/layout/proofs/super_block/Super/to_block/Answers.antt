@@ -5,4 +5,4 @@ use Rattle.layout.proofs.super_block.Super.to_block.Goals as goal
 
 pub returns : goal.returns
 unfolding super_block block fit patched bytes16 bytes32
-returns c = simp (c.put_u32s.ensures, c.new_block-bytes.ensures)
+returns c = simp (c.put_all.ensures, c.new_block-bytes.ensures)
