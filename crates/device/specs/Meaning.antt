@@ -1,8 +1,13 @@
 -- What a device means: a cell for each block, and where each block lies.
-use Rattle.std.specs.Prelude.{◌≡◌, ℕ, ◌<◌, ◌≤◌, List, length, slice_index_or, slice_set}
+use Rattle.std.specs.Prelude.{◌≡◌, ℕ, ◌<◌, ◌≤◌, List, length, codes, slice_index_or, slice_set}
 use Rattle.device.specs.declared.interface.Kind.{Kind}
-use Rattle.device.specs.declared.interface.Kind.TheVariants.{WriteOnce}
+use Rattle.device.specs.declared.interface.Kind.TheVariants.{Rewritable, WriteOnce}
 use Rattle.device.specs.declared.fault.Place.{Place}
+
+-- what a kind is called
+abbrev pub kind_text : Kind → List ℕ
+kind_text Rewritable = codes "rewritable"
+kind_text WriteOnce = codes "write-once"
 
 pub data Cell : Type 0 where
   blank : Cell

@@ -1,5 +1,6 @@
 -- Refusals as docs/REFUSALS.md shows them: a number, and the label and the block that are named.
-use Rattle.std.specs.Prelude.{ℕ, cond, Ok, Err, Result, ◌==◌, nat_lt}
+use Rattle.std.specs.Prelude.{ℕ, cond, List, ◌++◌, codes, Ok, Err, Result, ◌==◌, nat_lt}
+use Rattle.std.specs.Fmt.{decimal}
 use Rattle.device.specs.declared.fault.DeviceFault.{DeviceFault}
 use Rattle.device.specs.declared.fault.DeviceFault.TheVariants.{BadBuffer, PastEnd, Blank, AlreadyHeld, Spoiled}
 
@@ -15,6 +16,10 @@ shown (PastEnd l b) = record { number = 2; label = l; block = b }
 shown (Blank p) = record { number = 3; label = p.label; block = p.block }
 shown (AlreadyHeld p) = record { number = 4; label = p.label; block = p.block }
 shown (Spoiled p) = record { number = 5; label = p.label; block = p.block }
+
+-- the text of a refusal, with its numbers in decimal
+abbrev pub text_of : Refusal → List ℕ
+text_of r = codes "refused by " ++ decimal r.number ++ codes " at label " ++ decimal r.label ++ codes ", block " ++ decimal r.block
 
 -- what a read or a write answers: it is accepted, or refused
 abbrev pub Answer : Type 0

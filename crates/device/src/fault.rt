@@ -1,7 +1,8 @@
 //! Why a device refuses a read or a write, and the two refusals that come before the block is looked at.
-ghost use Rattle.std.specs.Prelude.{◌≡◌};
-ghost use Rattle.device.specs.Refusals.{shown, told, admission};
+ghost use Rattle.std.specs.Prelude.{◌≡◌, Some};
+ghost use Rattle.device.specs.Refusals.{shown, told, admission, text_of};
 
+use std::error::Error;
 use std::fmt;
 
 /// The bytes of a block.
@@ -60,12 +61,16 @@ impl DeviceFault {
 }
 
 impl fmt::Display for DeviceFault {
+    ghost output = { λ fault. Some (text_of (shown fault)) };
+
     fn fmt<W: fmt::Write>(&self, f: &mut fmt::Formatter<W>) -> fmt::Result {
         let number = self.number();
         let Place { label, block } = self.place();
         write!(f, "refused by {number} at label {label}, block {block}")
     }
 }
+
+impl Error for DeviceFault {}
 
 /// The refusals that do not look at the block: a buffer of `len` bytes that is no block, and a block past the end.
 pub fn admit(label: u8, size: u32, block: u32, len: usize) -> Result<(), DeviceFault>

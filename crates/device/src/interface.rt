@@ -1,6 +1,6 @@
 //! The interface of every block device, with its meaning and its laws.
-ghost use Rattle.std.specs.Prelude.{◌≡◌};
-ghost use Rattle.device.specs.Meaning.{Meaning, Sound, size as blocks};
+ghost use Rattle.std.specs.Prelude.{◌≡◌, Some};
+ghost use Rattle.device.specs.Meaning.{kind_text, Meaning, Sound, size as blocks};
 ghost use Rattle.device.specs.Calls.{Reads, Writes};
 
 use crate::fault::{DeviceFault, Place};
@@ -19,6 +19,8 @@ pub enum Kind {
 }
 
 impl fmt::Display for Kind {
+    ghost output = { λ kind. Some (kind_text kind) };
+
     fn fmt<W: fmt::Write>(&self, f: &mut fmt::Formatter<W>) -> fmt::Result {
         f.write_str(match self {
             Kind::Rewritable => "rewritable",

@@ -1,4 +1,3 @@
-pub mod Everys
 pub mod Tests
 pub mod Parts
 pub mod Chunks

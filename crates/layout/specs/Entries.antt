@@ -1,7 +1,7 @@
 -- Entries of 72 bytes, of which a directory block has seven.
 use Rattle.std.specs.Prelude.{◌≡◌, ◌≢◌, ℕ, zero, suc, ◌+◌, ◌-◌, ◌*◌, ◌/◌, ◌%◌, Bool, cond, ◌&&◌, ◌||◌, List, [], ◌∷◌, ◌++◌, length, drop, ◌==◌, nat_le, nat_lt, Result, MatchResult}
-use Rattle.std.specs.List.{range_with_len, flat_map}
-use Rattle.plain.specs.Names.{every, is_name}
+use Rattle.std.specs.List.{list_all, range_with_len, flat_map}
+use Rattle.plain.specs.Names.{is_name}
 use Rattle.layout.specs.declared.block.Tag.TheVariants as tag
 use Rattle.layout.specs.declared.entry.Mode.{Mode}
 use Rattle.layout.specs.declared.entry.Mode.TheVariants.{File, Directory}
@@ -114,7 +114,7 @@ blocks_for size = (size + 503) / 504
 -- the blocks of the size have the first direct addresses, and from the seventh on the indirect block's
 unfoldable pub legal_addresses : ℕ → List ℕ → Bool
 legal_addresses limit e =
-    every (λ i. legal_address limit (nat_lt i (blocks_for (size_of e))) (direct_of i e)) (range_with_len 0 6)
+    list_all (λ i. legal_address limit (nat_lt i (blocks_for (size_of e))) (direct_of i e)) (range_with_len 0 6)
     && legal_address limit (nat_lt 6 (blocks_for (size_of e))) (indirect_of e)
 
 -- a file has up to 6 + 126 blocks; a directory has up to six, and fills them

@@ -1,6 +1,6 @@
 -- Big-endian numbers, parts of lists of bytes, and lists of a fixed length.
 use Rattle.std.specs.Prelude.{ℕ, ◌+◌, ◌*◌, ◌/◌, ◌%◌, Bool, List, [], ◌∷◌, ◌++◌, length, take, drop, replicate, nat_eq, slice_index}
-use Rattle.plain.specs.Names.{every}
+use Rattle.std.specs.List.{list_all}
 
 -- a number in two bytes, and in four
 unfoldable pub bytes16 : ℕ → List ℕ
@@ -29,4 +29,4 @@ unfoldable pub fit : {X : Type 0} → ℕ → X → List X → List X
 fit n d xs = take n (xs ++ replicate n d)
 
 abbrev pub all_zero : List ℕ → Bool
-all_zero bs = every (λ b. nat_eq b 0) bs
+all_zero bs = list_all (λ b. nat_eq b 0) bs

@@ -1,15 +1,12 @@
 -- The first element of a list that passes a test, and what a change of one element does to it.
-use Rattle.std.proofs.Common.{◌≡◌, ℕ, zero, suc, ◌+◌, ◌<◌, ◌≤◌, Bool, true, false, cond, List, [], ◌∷◌, ◌++◌, length, get_or, set, refl, ap, arith}
+use Rattle.std.specs.List.{count_by}
+use Rattle.std.proofs.lemmas.List.Sums.{sum_by-cons}
+use Rattle.std.proofs.Common.{◌∙◌, sym, ◌≡◌, ℕ, zero, suc, ◌+◌, ◌<◌, ◌≤◌, Bool, true, false, cond, List, [], ◌∷◌, ◌++◌, length, get_or, set, refl, ap, arith}
 
 -- the place of the first element that passes, the length if there is none
 abbrev pub index : {X : Type 0} → (X → Bool) → List X → ℕ
 index f [] = 0
 index f (x ∷ xs) = cond (f x) 0 (suc (index f xs))
-
--- how many elements pass
-abbrev pub passing : {X : Type 0} → (X → Bool) → List X → ℕ
-passing f [] = 0
-passing f (x ∷ xs) = cond (f x) 1 0 + passing f xs
 
 module _ {X : Type 0} (f : X → Bool) (d : X) where
   -- what stands there passes
@@ -44,14 +41,14 @@ module _ {X : Type 0} (f : X → Bool) (d : X) where
       by false first g = g (omega arith)
 
   -- more elements that fail
-  pub index_more : (xs ys : List X) → passing f ys ≡ 0 → get_or (xs ++ ys) (index f (xs ++ ys)) d ≡ get_or xs (index f xs) d
+  pub index_more : (xs ys : List X) → count_by f ys ≡ 0 → get_or (xs ++ ys) (index f (xs ++ ys)) d ≡ get_or xs (index f xs) d
   index_more [] ys none = missing ys none
     where
-      missing : (ys : List X) → passing f ys ≡ 0 → get_or ys (index f ys) d ≡ d
+      missing : (ys : List X) → count_by f ys ≡ 0 → get_or ys (index f ys) d ≡ d
       missing [] none = refl
-      missing (y ∷ ys) none = by (f y) none (missing ys)
+      missing (y ∷ ys) none = by (f y) (sym (sum_by-cons (λ z. cond (f z) 1 0) y ys) ∙ none) (missing ys)
         where
-          by : (t : Bool) → cond t 1 0 + passing f ys ≡ 0 → (passing f ys ≡ 0 → get_or ys (index f ys) d ≡ d) → get_or (y ∷ ys) (cond t 0 (suc (index f ys))) d ≡ d
+          by : (t : Bool) → cond t 1 0 + count_by f ys ≡ 0 → (count_by f ys ≡ 0 → get_or ys (index f ys) d ≡ d) → get_or (y ∷ ys) (cond t 0 (suc (index f ys))) d ≡ d
           by true none g = absurd (omega arith)
           by false none g = g (omega arith)
   index_more (x ∷ xs) ys none = by (f x) (index_more xs ys none)
@@ -62,23 +59,13 @@ module _ {X : Type 0} (f : X → Bool) (d : X) where
       by false h = h
 
   -- where none passes, the first is past the end
-  pub index_none : (xs : List X) → passing f xs ≡ 0 → index f xs ≡ length xs
+  pub index_none : (xs : List X) → count_by f xs ≡ 0 → index f xs ≡ length xs
   index_none [] none = refl
-  index_none (x ∷ xs) none = by (f x) none (index_none xs)
+  index_none (x ∷ xs) none = by (f x) (sym (sum_by-cons (λ z. cond (f z) 1 0) x xs) ∙ none) (index_none xs)
     where
-      by : (t : Bool) → cond t 1 0 + passing f xs ≡ 0 → (passing f xs ≡ 0 → index f xs ≡ length xs) → cond t 0 (suc (index f xs)) ≡ suc (length xs)
+      by : (t : Bool) → cond t 1 0 + count_by f xs ≡ 0 → (count_by f xs ≡ 0 → index f xs ≡ length xs) → cond t 0 (suc (index f xs)) ≡ suc (length xs)
       by true none g = absurd (omega arith)
       by false none g = ap suc (g (omega arith))
-
-  pub passing_append : (xs ys : List X) → passing f (xs ++ ys) ≡ passing f xs + passing f ys
-  passing_append [] ys = omega arith
-  passing_append (x ∷ xs) ys = omega (arith, passing_append xs ys)
-
-  -- one element changes
-  pub passing_set : (xs : List X) (i : ℕ) (p : X) → i < length xs → passing f (set xs i p) + cond (f (get_or xs i d)) 1 0 ≡ passing f xs + cond (f p) 1 0
-  passing_set [] i p h = absurd (omega arith)
-  passing_set (x ∷ xs) zero p h = omega arith
-  passing_set (x ∷ xs) (suc i) p h = omega (arith, passing_set xs i p (omega arith))
 
   -- an element that passes is not before the first
   pub index_at_most : (xs ys : List X) (y : X) → f y ≡ true → index f (xs ++ y ∷ ys) ≤ length xs

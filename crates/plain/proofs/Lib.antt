@@ -1,4 +1,4 @@
-pub mod Everys
+pub mod Passing
 pub mod Pieces
 pub mod Indices
 pub mod Rows

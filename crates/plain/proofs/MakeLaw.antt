@@ -8,7 +8,9 @@ use Rattle.plain.specs.Paths.{path_of, front, final}
 use Rattle.plain.specs.Trees.{Dir, free, file, end, leaf, dir, Place, flat, deep, at, find, first_free, size, is_free, has_name, name_at, named, used, frees, append, walk, Tree, Plain, root_place, slash}
 use Rattle.plain.specs.Operations.{make, make_on, make_at, make_in, roomy, new_node, inside}
 use Rattle.plain.specs.Laws.{nothing, a_dir, sight, see, names_at, new_sight, with_name, NameChanged, Tidy, TidyDir, TidyBelow}
-use Rattle.plain.proofs.Indices.{index, passing, index_none, index_more, index_passes, index_at_most, passing_append}
+use Rattle.plain.proofs.Indices.{index, index_none, index_more, index_passes, index_at_most}
+use Rattle.std.specs.List.{count_by}
+use Rattle.std.proofs.lemmas.List.Sums.{sum_by-append, sum_by-cons}
 use Rattle.plain.proofs.Rows.{row, is_free_place, row_at, row_size, row_find, row_free, row_named, row_append}
 use Rattle.plain.proofs.Walking.{same_name, self_name, other_name, found, found_other, found_new, walk_append, walk_free}
 use Rattle.plain.proofs.Changes.{front_final, see_in, see_home, saw_home, see_others}
@@ -62,9 +64,9 @@ accepted_make is_dir path t t' ok = go (path_of path) refl ok
     go (Some (n ∷ ns)) e ok = place n ns e (walk (front n ns) (root_place t)) refl ok
 
 -- empty places have no name
-frees_passing : (x : List ℕ) (k : ℕ) → passing (has_name x) (row (frees {W = Unit {0}} k)) ≡ 0
-frees_passing x zero = refl
-frees_passing x (suc k) = omega (arith, frees_passing x k)
+frees_named : (x : List ℕ) (k : ℕ) → count_by (has_name x) (row (frees {W = Unit {0}} k)) ≡ 0
+frees_named x zero = refl
+frees_named x (suc k) = omega (arith, sum_by-cons (λ p. cond (has_name x p) 1 0) (flat free) (row (frees {W = Unit {0}} k)), frees_named x k)
 
 -- a directory with room made
 module _ (c : Plain) where
@@ -81,7 +83,7 @@ module _ (c : Plain) where
       (λ h.
       found x (append c (frees 7))
       ∙ ap (λ r. get_or r (index (has_name x) r) (flat free)) (row_append c (frees 7))
-      ∙ index_more (has_name x) (flat free) (row c) (row (frees 7)) (frees_passing x 7)
+      ∙ index_more (has_name x) (flat free) (row c) (row (frees 7)) (frees_named x 7)
       ∙ sym (found x c))
 
   pub roomy_named : (x : List ℕ) → named x (roomy c) ≡ named x c
@@ -89,8 +91,8 @@ module _ (c : Plain) where
       by_room (λ k. named x k ≡ named x c) (λ h. refl)
       (λ h.
       row_named x (append c (frees 7))
-      ∙ ap (passing (has_name x)) (row_append c (frees 7))
-      ∙ omega (arith, passing_append (has_name x) (flat free) (row c) (row (frees 7)), frees_passing x 7, row_named x c))
+      ∙ ap (count_by (has_name x)) (row_append c (frees 7))
+      ∙ omega (arith, sum_by-append (λ p. cond (has_name x p) 1 0) (row c) (row (frees 7)), frees_named x 7, row_named x c))
 
   pub roomy_free : first_free (roomy c) < size (roomy c)
   roomy_free =

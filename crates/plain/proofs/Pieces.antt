@@ -5,8 +5,7 @@ use Rattle.std.specs.List.{list_all, onto_first, slice_split}
 use Rattle.std.proofs.lemmas.List.Splits.{length-slice_split}
 use Rattle.std.proofs.lemmas.List.{length-append, drop_at}
 use Rattle.std.proofs.lemmas.Bool.{and_parts, and_left, and_right, ne_eqb, eqb-true, le-leb, leb-true}
-use Rattle.plain.specs.Names.{every, is_name, name_byte}
-use Rattle.plain.proofs.Everys.{every_is}
+use Rattle.plain.specs.Names.{is_name, name_byte}
 use Rattle.plain.specs.Paths.{onto, pieces, names_in, at_most_eight, is_root, path_of, names_text, path_text}
 
 -- the bytes before the first slash
@@ -40,7 +39,7 @@ pub split_names : (bs : List ℕ) →
 split_names bs =
     let parts = slice_split (λ b. eqb b 47) bs in
     let more : 1 ≤ length parts = omega (arith, length-slice_split (λ b. eqb b 47) bs) in
-    ap (λ ps. is_some (at_most_eight (cond (every is_name ps) (Some ps) None))) (pieces_split bs) ∙ rw (every_is is_name parts) (by parts (list_all is_name parts) more)
+    ap (λ ps. is_some (at_most_eight (cond (list_all is_name ps) (Some ps) None))) (pieces_split bs) ∙ by parts (list_all is_name parts) more
   where
     by : (ps : List (List ℕ)) (t : Bool) → 1 ≤ length ps → is_some (at_most_eight (cond t (Some ps) None)) ≡ (leb (length ps) 8 && t)
     by ps true h = rw (le-leb 1 (length ps) h) (some (leb (length ps) 8))
@@ -72,7 +71,7 @@ abbrev cons_name : List ℕ → Option (List (List ℕ)) → Option (List (List 
 cons_name n ns = cond (is_name n) (option_map (λ l. n ∷ l) ns) None
 
 names_step : (bs : List ℕ) → names_in (47 ∷ bs) ≡ cons_name (first_piece bs) (names_in (from_slash bs))
-names_step bs = ap (λ ps. cond (every is_name ps) (Some ps) None) (pieces_are bs) ∙ ⊎_elim none some (slash_next bs)
+names_step bs = ap (λ ps. cond (list_all is_name ps) (Some ps) None) (pieces_are bs) ∙ ⊎_elim none some (slash_next bs)
   where
     by : (t u : Bool) (n : List ℕ) (ps : List (List ℕ)) → cond (t && u) (Some (n ∷ ps)) None ≡ cond t (option_map (λ l. n ∷ l) (cond u (Some ps) None)) None
     by true true n ps = refl
@@ -80,18 +79,18 @@ names_step bs = ap (λ ps. cond (every is_name ps) (Some ps) None) (pieces_are b
     by false u n ps = refl
 
     none : from_slash bs ≡ [] →
-        cond (every is_name (first_piece bs ∷ later (from_slash bs))) (Some (first_piece bs ∷ later (from_slash bs))) None ≡ cons_name (first_piece bs) (names_in (from_slash bs))
+        cond (list_all is_name (first_piece bs ∷ later (from_slash bs))) (Some (first_piece bs ∷ later (from_slash bs))) None ≡ cons_name (first_piece bs) (names_in (from_slash bs))
     none e = rw e (by (is_name (first_piece bs)) true (first_piece bs) [])
 
     some : (cs : List ℕ) × (from_slash bs ≡ 47 ∷ cs) →
-        cond (every is_name (first_piece bs ∷ later (from_slash bs))) (Some (first_piece bs ∷ later (from_slash bs))) None ≡ cons_name (first_piece bs) (names_in (from_slash bs))
-    some p = rw p.1 (by (is_name (first_piece bs)) (every is_name (pieces p.0)) (first_piece bs) (pieces p.0))
+        cond (list_all is_name (first_piece bs ∷ later (from_slash bs))) (Some (first_piece bs ∷ later (from_slash bs))) None ≡ cons_name (first_piece bs) (names_in (from_slash bs))
+    some p = rw p.1 (by (is_name (first_piece bs)) (list_all is_name (pieces p.0)) (first_piece bs) (pieces p.0))
 
 -- a piece without a slash, before one or the end
-free_of_slash : (n rest : List ℕ) → every name_byte n ≡ true → (rest ≡ []) ⊎ ((cs : List ℕ) × (rest ≡ 47 ∷ cs)) → first_piece (n ++ rest) ≡ n
+free_of_slash : (n rest : List ℕ) → list_all name_byte n ≡ true → (rest ≡ []) ⊎ ((cs : List ℕ) × (rest ≡ 47 ∷ cs)) → first_piece (n ++ rest) ≡ n
 free_of_slash [] rest h o = ⊎_elim (λ e. rw e) (λ p. rw p.1) o
 free_of_slash (b ∷ n) rest h o =
-    let p = and_parts (name_byte b) (every name_byte n) h in
+    let p = and_parts (name_byte b) (list_all name_byte n) h in
     let ne : eqb b 47 ≡ false = slash_free b p.0 in
     rw ne (ap (λ l. b ∷ l) (free_of_slash n rest p.1 o))
   where
@@ -103,11 +102,11 @@ names_text_lem [] = inl refl
 names_text_lem (n ∷ ns) = inr (n ++ names_text ns, refl)
 
 -- the names that a text of names has are those
-pub text_names : (ns : List (List ℕ)) → every is_name ns ≡ true → names_in (names_text ns) ≡ Some ns
+pub text_names : (ns : List (List ℕ)) → list_all is_name ns ≡ true → names_in (names_text ns) ≡ Some ns
 text_names [] h = refl
 text_names (n ∷ ns) h =
-    let p = and_parts (is_name n) (every is_name ns) h in
-    let q = and_parts _ (every name_byte n) p.0 in
+    let p = and_parts (is_name n) (list_all is_name ns) h in
+    let q = and_parts _ (list_all name_byte n) p.0 in
     let e = free_of_slash n (names_text ns) q.1 (names_text_lem ns) in
     names_step (n ++ names_text ns)
     ∙ ap (λ x. cons_name x (names_in (drop (length x) (n ++ names_text ns)))) e
@@ -127,11 +126,11 @@ pieces_text (b ∷ bs) = by (pieces_text bs) (eqb b 47) refl
         let d : first_piece bs ++ names_text (later (from_slash bs)) ≡ bs = cc in
         ap (λ ps. names_text (onto b ps)) (pieces_are bs) ∙ ap (λ l. 47 ∷ (b ∷ l)) d
 
-names_short : (ns : List (List ℕ)) → every is_name ns ≡ true → length (names_text ns) ≤ 28 * length ns
+names_short : (ns : List (List ℕ)) → list_all is_name ns ≡ true → length (names_text ns) ≤ 28 * length ns
 names_short [] h = omega arith
 names_short (n ∷ ns) h =
-    let p = and_parts (is_name n) (every is_name ns) h in
-    let q = and_parts _ (every name_byte n) p.0 in
+    let p = and_parts (is_name n) (list_all is_name ns) h in
+    let q = and_parts _ (list_all name_byte n) p.0 in
     let r = and_parts (leb 1 (length n)) (leb (length n) 27) q.0 in
     omega (arith, names_short ns p.1, leb-true _ _ r.1, length-append n (names_text ns))
 
@@ -141,13 +140,13 @@ path_short text h = by (is_root text) refl h
   where
     some : (text : List ℕ) → is_some (at_most_eight (names_in text)) ≡ true → length text ≤ 224
     some [] h = omega arith
-    some (b ∷ bs) h = go (eqb b 47) (every is_name (pieces bs)) refl h
+    some (b ∷ bs) h = go (eqb b 47) (list_all is_name (pieces bs)) refl h
       where
         few : (t : Bool) → is_some (cond t (Some (pieces bs)) None) ≡ true → t ≡ true
         few true h = refl
         few false h = h
 
-        go : (s t : Bool) → every is_name (pieces bs) ≡ t → is_some (at_most_eight (cond (s && t) (Some (pieces bs)) None)) ≡ true → length (b ∷ bs) ≤ 224
+        go : (s t : Bool) → list_all is_name (pieces bs) ≡ t → is_some (at_most_eight (cond (s && t) (Some (pieces bs)) None)) ≡ true → length (b ∷ bs) ≤ 224
         go true true e h =
             let n = and_parts (leb 1 (length (pieces bs))) (leb (length (pieces bs)) 8) (few _ h) in
             omega (arith, leb-true _ _ n.1, names_short (pieces bs) e, ap length (pieces_text bs))
@@ -167,7 +166,7 @@ path_long text h = by (path_of text) refl
 
 -- the names of a path are legal, at most eight, and their text is the path's
 pub record IsPath (text : List ℕ) (ns : List (List ℕ)) : Type 0 where
-  pub legal : every is_name ns ≡ true
+  pub legal : list_all is_name ns ≡ true
   pub few : length ns ≤ 8
   pub shown : path_text ns ≡ text
 
@@ -185,9 +184,9 @@ path_is text ns is = by text (is_root text) refl is
 
     names : (text : List ℕ) → at_most_eight (names_in text) ≡ Some ns → IsPath text ns
     names [] e = let z : ◌≡◌ {A = ℕ} 0 1 = cc in absurd (omega arith)
-    names (b ∷ bs) e = go (eqb b 47) refl (every is_name (pieces bs)) refl e
+    names (b ∷ bs) e = go (eqb b 47) refl (list_all is_name (pieces bs)) refl e
       where
-        go : (s : Bool) → eqb b 47 ≡ s → (t : Bool) → every is_name (pieces bs) ≡ t → at_most_eight (cond (s && t) (Some (pieces bs)) None) ≡ Some ns → IsPath (b ∷ bs) ns
+        go : (s : Bool) → eqb b 47 ≡ s → (t : Bool) → list_all is_name (pieces bs) ≡ t → at_most_eight (cond (s && t) (Some (pieces bs)) None) ≡ Some ns → IsPath (b ∷ bs) ns
         go true f true g e =
             let p = some (pieces bs) _ e in
             let n = and_parts (leb 1 (length (pieces bs))) (leb (length (pieces bs)) 8) p.0 in
@@ -201,11 +200,11 @@ path_is text ns is = by text (is_root text) refl is
     by text false e is = names text is
 
 -- the path that names are
-pub path_back : (ns : List (List ℕ)) → every is_name ns ≡ true → length ns ≤ 8 → path_of (path_text ns) ≡ Some ns
+pub path_back : (ns : List (List ℕ)) → list_all is_name ns ≡ true → length ns ≤ 8 → path_of (path_text ns) ≡ Some ns
 path_back [] h few = refl
 path_back (n ∷ ns) h few =
-    let p = and_parts (is_name n) (every is_name ns) h in
-    let q = and_parts _ (every name_byte n) p.0 in
+    let p = and_parts (is_name n) (list_all is_name ns) h in
+    let q = and_parts _ (list_all name_byte n) p.0 in
     let long = leb-true 1 (length n) (and_parts (leb 1 (length n)) (leb (length n) 27) q.0).0 in
     let two : is_root (names_text (n ∷ ns)) ≡ false = and_left (eqb (length (names_text (n ∷ ns))) 1) _ (ne_eqb _ 1 (λ e. omega (arith, e, long, length-append n (names_text ns)))) in
     let most : leb (length (n ∷ ns)) 8 ≡ true = le-leb _ _ few in

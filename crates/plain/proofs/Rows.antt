@@ -1,9 +1,11 @@
 -- The places of a directory as a list.
-use Rattle.std.proofs.Common.{◌≡◌, ℕ, zero, suc, ◌+◌, Bool, false, cond, List, [], ◌∷◌, ◌++◌, map, length, get_or, set, replicate, refl, ap}
+use Rattle.std.proofs.Common.{sym, ◌∙◌, ◌≡◌, ℕ, zero, suc, ◌+◌, Bool, false, cond, List, [], ◌∷◌, ◌++◌, map, length, get_or, set, replicate, refl, ap}
 use Rattle.std.specs.Str.{bytes_eq}
 use Rattle.plain.specs.Trees.{free, Places, end, leaf, dir, Place, flat, deep, put, size, at, set_at, is_free, name_at, has_name, first_free, find, named, frees, append}
 use Rattle.plain.specs.Laws.{names_at}
-use Rattle.plain.proofs.Indices.{index, passing}
+use Rattle.std.specs.List.{count_by}
+use Rattle.std.proofs.lemmas.List.Sums.{sum_by-cons}
+use Rattle.plain.proofs.Indices.{index}
 
 module _ {W : Type 0} where
   abbrev pub row : Places W → List (Place W)
@@ -48,10 +50,10 @@ module _ {W : Type 0} where
   row_free (leaf l k) = ap (λ i. cond (is_free l) 0 (suc i)) (row_free k)
   row_free (dir m d w c k) = ap suc (row_free k)
 
-  pub row_named : (n : List ℕ) (c : Places W) → named n c ≡ passing (has_name n) (row c)
+  pub row_named : (n : List ℕ) (c : Places W) → named n c ≡ count_by (has_name n) (row c)
   row_named n end = refl
-  row_named n (leaf l k) = ap (λ i. cond (has_name n (flat l)) 1 0 + i) (row_named n k)
-  row_named n (dir m d w c k) = ap (λ i. cond (bytes_eq n m) 1 0 + i) (row_named n k)
+  row_named n (leaf l k) = ap (λ i. cond (has_name n (flat l)) 1 0 + i) (row_named n k) ∙ sym (sum_by-cons (λ p. cond (has_name n p) 1 0) (flat l) (row k))
+  row_named n (dir m d w c k) = ap (λ i. cond (bytes_eq n m) 1 0 + i) (row_named n k) ∙ sym (sum_by-cons (λ p. cond (has_name n p) 1 0) (deep m d w c) (row k))
 
   pub row_append : (c e : Places W) → row (append c e) ≡ row c ++ row e
   row_append end e = refl

@@ -1,11 +1,13 @@
 -- Tidy directories, and how a change in one keeps all of them tidy.
 use Rattle.std.proofs.Common.{◌≡◌, ℕ, zero, suc, ◌+◌, ◌%◌, ◌<◌, true, cond, leb, List, [], ◌∷◌, length, set, sym, refl, ap, ◌∙◌, subst, arith}
+use Rattle.std.specs.List.{list_all}
 use Rattle.std.proofs.lemmas.List.{length-set}
 use Rattle.std.proofs.lemmas.Bool.{and_parts, leb-true}
-use Rattle.plain.specs.Names.{every, name_byte, is_name}
+use Rattle.plain.specs.Names.{name_byte, is_name}
 use Rattle.plain.specs.Trees.{Dir, free, file, end, leaf, dir, Place, flat, deep, put, at, set_at, size, find, has_name, named, walk, modify, Plain}
 use Rattle.plain.specs.Laws.{TidyDir, TidyLeaf, TidyBelow}
-use Rattle.plain.proofs.Indices.{passing, passing_set}
+use Rattle.std.specs.List.{count_by}
+use Rattle.std.proofs.lemmas.List.Sums.{sum_by-set}
 use Rattle.plain.proofs.Rows.{row, row_at, row_size, row_set, row_named}
 use Rattle.plain.proofs.Walking.{walk_flat, found_within, modify_step}
 use Rattle.plain.proofs.Filling.{Named}
@@ -33,7 +35,7 @@ tidy_set (dir n d w c k) zero p h q = tidy_put p k q h.3
 tidy_set (dir n d w c k) (suc i) p h q = (h.0, h.1, h.2, tidy_set k i p h.3 q)
 
 pub name_long : (n : List ℕ) → is_name n ≡ true → 0 < length n
-name_long n e = leb-true 1 (length n) (and_parts (leb 1 (length n)) (leb (length n) 27) (and_parts _ (every name_byte n) e).0).0
+name_long n e = leb-true 1 (length n) (and_parts (leb 1 (length n)) (leb (length n) 27) (and_parts _ (list_all name_byte n) e).0).0
 
 pub tidy_named : (c : Plain) → TidyBelow c → Named (row c)
 tidy_named end h = tt
@@ -47,9 +49,9 @@ size_set c i p = row_size (set_at c i p) ∙ ap length (row_set c i p) ∙ lengt
 -- how often a name is there when one place changes
 pub named_set : (x : List ℕ) (c : Plain) (i : ℕ) (p : Place (Unit {0})) → i < size c → named x (set_at c i p) + cond (has_name x (at c i)) 1 0 ≡ named x c + cond (has_name x p) 1 0
 named_set x c i p h =
-    ap (λ n. n + cond (has_name x (at c i)) 1 0) (row_named x (set_at c i p) ∙ ap (passing (has_name x)) (row_set c i p))
-    ∙ ap (λ q. passing (has_name x) (set (row c) i p) + cond (has_name x q) 1 0) (row_at c i)
-    ∙ passing_set (has_name x) (flat free) (row c) i p (rw (← row_size c) h)
+    ap (λ n. n + cond (has_name x (at c i)) 1 0) (row_named x (set_at c i p) ∙ ap (count_by (has_name x)) (row_set c i p))
+    ∙ ap (λ q. count_by (has_name x) (set (row c) i p) + cond (has_name x q) 1 0) (row_at c i)
+    ∙ sum_by-set (λ q. cond (has_name x q) 1 0) (row c) i p (flat free) (rw (← row_size c) h)
     ∙ ap (λ n. n + cond (has_name x p) 1 0) (sym (row_named x c))
 
 -- a place with the same name

@@ -1,14 +1,15 @@
 -- What a user expects of the plain tree, said of paths.
 use Rattle.std.specs.Prelude.{◌≡◌, ℕ, ◌+◌, ◌%◌, ◌≤◌, Bool, true, cond, List, [], ◌∷◌, ◌++◌, length, take, drop, replicate, Some, Ok, ◌≢◌}
+use Rattle.std.specs.List.{list_all}
 use Rattle.std.specs.Str.{bytes_eq}
-use Rattle.plain.specs.Names.{every, is_name}
+use Rattle.plain.specs.Names.{is_name}
 use Rattle.plain.specs.Paths.{path_of, path_text}
 use Rattle.plain.specs.Trees.{File, Dir, Leaf, free, file, end, leaf, dir, Place, flat, deep, name_at, named, size, walk, Tree, Plain, root_place, empty_tree}
 use Rattle.plain.specs.Operations.{read, stat, entry, make, write, remove, written}
 
 -- a path's text and its names belong together
 pub record PathLaws : Type 0 where
-  pub read_back : (ns : List (List ℕ)) → every is_name ns ≡ true → length ns ≤ 8 → path_of (path_text ns) ≡ Some ns
+  pub read_back : (ns : List (List ℕ)) → list_all is_name ns ≡ true → length ns ≤ 8 → path_of (path_text ns) ≡ Some ns
   pub shown : (text : List ℕ) (ns : List (List ℕ)) → path_of text ≡ Some ns → path_text ns ≡ text
 
 -- the names at the places of a directory, first to last

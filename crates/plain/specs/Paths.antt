@@ -1,6 +1,7 @@
 -- Paths: "/" alone, or 1 to 8 names, each after a "/", which is byte 47.
 use Rattle.std.specs.Prelude.{ℕ, Bool, cond, ◌&&◌, List, [], ◌∷◌, ◌++◌, length, Some, None, Option, ◌==◌, nat_eq, nat_le}
-use Rattle.plain.specs.Names.{every, is_name}
+use Rattle.std.specs.List.{list_all}
+use Rattle.plain.specs.Names.{is_name}
 
 -- a byte more at the front of the first piece
 abbrev pub onto : ℕ → List (List ℕ) → List (List ℕ)
@@ -15,14 +16,14 @@ pieces (b ∷ bs) = cond (b == 47) ([] ∷ pieces bs) (onto b (pieces bs))
 -- the names in a text in which each follows a "/"
 abbrev pub names_in : List ℕ → Option (List (List ℕ))
 names_in [] = Some []
-names_in (b ∷ bs) = cond (b == 47 && every is_name (pieces bs)) (Some (pieces bs)) None
+names_in (b ∷ bs) = cond (b == 47 && list_all is_name (pieces bs)) (Some (pieces bs)) None
 
 abbrev pub at_most_eight : Option (List (List ℕ)) → Option (List (List ℕ))
 at_most_eight None = None
 at_most_eight (Some ns) = cond (nat_le 1 (length ns) && nat_le (length ns) 8) (Some ns) None
 
 abbrev pub is_root : List ℕ → Bool
-is_root text = length text == 1 && every (λ b. nat_eq b 47) text
+is_root text = length text == 1 && list_all (λ b. nat_eq b 47) text
 
 -- the names of the path that a text is, if it is one
 abbrev pub path_of : List ℕ → Option (List (List ℕ))

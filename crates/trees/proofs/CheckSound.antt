@@ -1,9 +1,8 @@
 -- A check of a tree that passes has met the blocks of the tree that they decode to.
 use Rattle.std.proofs.Common.{◌≡◌, ℕ, zero, suc, ◌^◌, ◌<◌, ◌≤◌, true, eqb, List, [], ◌∷◌, map, length, drop, Ok, sym, refl, ap, ◌∙◌, subst, arith}
-use Rattle.std.specs.List.{AllByRecursion}
+use Rattle.std.specs.List.{list_all, AllByRecursion}
 use Rattle.std.proofs.ByRecursion.{All-drop, All-weaker}
 use Rattle.std.proofs.lemmas.Bool.{and_parts, eqb-true}
-use Rattle.plain.specs.Names.{every}
 use Rattle.plain.specs.Trees.{Dir, Places, dir, frees, slash}
 use Rattle.layout.specs.declared.block.Tag.TheVariants as tag
 use Rattle.layout.specs.Numbers.{all_zero}
@@ -23,10 +22,10 @@ use Rattle.trees.proofs.Visits.{then_ok, grown_one, Visited, visit_judged, Kept}
 use Rattle.trees.proofs.Passes.{DirectoryPassed, directory_entry, directory_checked}
 
 -- empty places
-empties_back : (es : List (List ℕ)) → AllByRecursion Bytes72 es → every all_zero es ≡ true → map entry_bytes (entries (frees (length es))) ≡ es
+empties_back : (es : List (List ℕ)) → AllByRecursion Bytes72 es → list_all all_zero es ≡ true → map entry_bytes (entries (frees (length es))) ≡ es
 empties_back [] all none = refl
 empties_back (e ∷ es) all none =
-    let both = and_parts (all_zero e) (every all_zero es) none in
+    let both = and_parts (all_zero e) (list_all all_zero es) none in
     let here = zeros_back e all.0.0 both.0 in
     let rest = empties_back es all.1 both.1 in
     cc
@@ -88,7 +87,7 @@ module _ (m : BlockMap) (limit next top : ℕ) (e met : List ℕ) (c : Places St
 
 -- the root block of a check that passed
 root_stands : (m : BlockMap) (limit next top : ℕ) (c : Places Stored) → Visited m (tag_number tag.Directory) 0 top → Root limit next (entry_at 0 (bytes_of (m top))) →
-    every all_zero (drop 1 (entries_of (bytes_of (m top)))) ≡ true → m top ≡ Ok (encoded (directory_content 0 (entries (root_places m (entry_at 0 (bytes_of (m top))) c))))
+    list_all all_zero (drop 1 (entries_of (bytes_of (m top)))) ≡ true → m top ≡ Ok (encoded (directory_content 0 (entries (root_places m (entry_at 0 (bytes_of (m top))) c))))
 root_stands m limit next top c seen root none =
     let b = bytes_of (m top) in
     let first = directory_entry m limit next (entry_at 0 b) slash root.node root.mode root.name in
@@ -104,7 +103,7 @@ check_sound m limit next top met holds few low within ok =
     let b = bytes_of (m top) in
     let e = entry_at 0 b in
     let c = places_at m 9 (directs_of e) in
-    let parts = and_parts (legal_root_entry limit next e) (every all_zero (drop 1 (entries_of b))) seen.1 in
+    let parts = and_parts (legal_root_entry limit next e) (list_all all_zero (drop 1 (entries_of b))) seen.1 in
     let root = root_entry limit next e (entries_bytes b seen.0.long seen.0.bytes).0 parts.0 in
     let passed = directory_checked m holds limit next 8 top e (top ∷ []) met (directs_within limit next e root.node)
     (subst (λ x. check_directory m limit next 8 top (entry_at 0 x) (top ∷ []) ≡ Ok met) seen.2 step.2) in

@@ -10,7 +10,7 @@ use Rattle.plain.specs.Operations.{make_in, make_at, make_on, inside, new_node, 
 use Rattle.plain.specs.Laws.{Tidy}
 use Rattle.plain.specs.Histories as call
 use Rattle.plain.specs.Books.{changed}
-use Rattle.plain.proofs.Everys.{every_last}
+use Rattle.plain.proofs.Passing.{last_passes}
 use Rattle.plain.proofs.Pieces.{path_is}
 use Rattle.plain.proofs.MakeLaw.{accepted_make, made_tidy}
 use Rattle.plain.proofs.WriteLaw.{accepted_write, wrote_tidy}
@@ -136,7 +136,7 @@ formed_inside path ns n f next t u names_are is tidy w grows le few numbers =
     })
 
 path_name : (path : List ℕ) (ns : List (List ℕ)) (n : List ℕ) → path_of path ≡ Some (ns ++ n ∷ []) → is_name n ≡ true
-path_name path ns n is = every_last is_name ns n (path_is path (ns ++ n ∷ []) is).legal
+path_name path ns n is = last_passes is_name ns n (path_is path (ns ++ n ∷ []) is).legal
 
 new_levels : (is_dir : Bool) (n : List ℕ) (q : ℕ) → place_levels (new_node is_dir n q) ≡ 1
 new_levels true n q = refl

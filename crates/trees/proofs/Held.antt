@@ -1,13 +1,13 @@
 -- What a tree's blocks hold at each of its places.
 use Rattle.std.proofs.Common.{◌≡◌, ℕ, zero, suc, ◌*◌, ◌%◌, ◌^◌, ◌<◌, ◌≤◌, true, false, ◌||◌, List, [], ◌∷◌, ◌++◌, length, get_or, drop, replicate, Ok, refl, ap, ◌∙◌, arith}
-use Rattle.std.specs.List.{AllByRecursion}
+use Rattle.std.specs.List.{list_all, AllByRecursion}
 use Rattle.std.proofs.ByRecursion.{All-get_or, All-from_get_or, All-take}
 use Rattle.std.proofs.lemmas.List.{length-take, length-drop, get_or_past, take_all}
 use Rattle.std.proofs.lemmas.Bool.{and_parts, and_from, leb-true, eq-eqb, le-leb}
-use Rattle.plain.specs.Names.{every, name_byte, is_name}
+use Rattle.plain.specs.Names.{name_byte, is_name}
 use Rattle.plain.specs.Trees.{File, Dir, Leaf, free, file, Places, end, leaf, dir, Place, flat, deep, size, at, frees, slash}
 use Rattle.plain.specs.Laws.{TidyBelow, TidyLeaf}
-use Rattle.plain.proofs.Everys.{name_short}
+use Rattle.plain.proofs.Passing.{name_short}
 use Rattle.layout.specs.declared.entry.Mode.TheVariants as mode
 use Rattle.layout.specs.Blocks.{file_block, indirect_block}
 use Rattle.layout.specs.Entries.{empty_entry, mode_number, entry_bytes, directory_block, legal_size, legal_entry}
@@ -20,10 +20,10 @@ use Rattle.trees.proofs.Readable.{Readable}
 use Rattle.trees.proofs.Legality.{legal_entry_lem, legal_empty, legal_root_lem}
 
 -- names have no zero byte
-name_word : (n : List ℕ) → every name_byte n ≡ true → AllByRecursion (λ b. 0 < b) n
+name_word : (n : List ℕ) → list_all name_byte n ≡ true → AllByRecursion (λ b. 0 < b) n
 name_word [] h = tt
 name_word (b ∷ n) h =
-    let parts = and_parts (name_byte b) (every name_byte n) h in
+    let parts = and_parts (name_byte b) (list_all name_byte n) h in
     let low = leb-true 33 b (and_parts _ _ (and_parts _ _ parts.0).0).0 in
     (omega arith, name_word n parts.1)
 
@@ -153,7 +153,7 @@ module _ (m : BlockMap) (limit next : ℕ) (few : limit ≤ 65536) (bound : next
   file_readable n f w named h = record {
     few = few;
     short = name_short n named;
-    word = name_word n (and_parts _ (every name_byte n) named).1;
+    word = name_word n (and_parts _ (list_all name_byte n) named).1;
     mode = omega arith;
     qid = omega (arith, h.qid);
     version = h.version;
@@ -180,7 +180,7 @@ module _ (m : BlockMap) (limit next : ℕ) (few : limit ≤ 65536) (bound : next
     indirect = ((λ more. absurd (omega arith)), λ le. refl);
   }
   place_readable (flat (file n f w)) h = file_readable n f w h.0 h.1
-  place_readable (deep n d w c) h = dir_readable n d w c (name_short n h.0) (name_word n (and_parts _ (every name_byte n) h.0).1) h.1
+  place_readable (deep n d w c) h = dir_readable n d w c (name_short n h.0) (name_word n (and_parts _ (list_all name_byte n) h.0).1) h.1
 
   pub place_legal : (p : Place Stored) → PlaceHeld m limit next p → legal_entry limit next (entry_bytes (place_entry p)) ≡ true
   place_legal (flat free) h = legal_empty limit next

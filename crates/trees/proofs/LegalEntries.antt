@@ -1,10 +1,10 @@
 -- What a legal entry says, and that it is the encoding of what it decodes to.
 use Rattle.std.proofs.Common.{◌≡◌, ℕ, ◌%◌, ◌^◌, ◌<◌, ◌≤◌, min, true, ◌&&◌, eqb, ltb, leb, ◌⊎◌, List, length, drop, replicate, sym, refl, ap, ◌∙◌, inl, inr, ⊎_elim, arith}
-use Rattle.std.specs.List.{range_with_len, AllByRecursion}
+use Rattle.std.specs.List.{list_all, range_with_len, AllByRecursion}
 use Rattle.std.specs.Str.{bytes_eq}
 use Rattle.std.proofs.lemmas.Slice.Eq.{bytes_eq-Decides}
 use Rattle.std.proofs.lemmas.Bool.{and_parts, or_cases, eqb-true, leb-true, ltb-true}
-use Rattle.plain.specs.Names.{every, is_name}
+use Rattle.plain.specs.Names.{is_name}
 use Rattle.plain.specs.Trees.{slash}
 use Rattle.layout.specs.declared.entry.Mode.TheVariants as mode
 use Rattle.layout.specs.Numbers.{number16, bytes_at, fit, all_zero}
@@ -89,7 +89,7 @@ entry_of e = record { name = name_of e; mode = mode_of e; qid = qid_of e; versio
 
 module _ (limit next : ℕ) (e : List ℕ) (h : Node limit next e) where
   -- its addresses
-  both : (every (λ i. legal_address limit (ltb i (blocks_for (size_of e))) (direct_of i e)) (range_with_len 0 6) ≡ true) × (legal_address limit (ltb 6 (blocks_for (size_of e))) (indirect_of e) ≡ true)
+  both : (list_all (λ i. legal_address limit (ltb i (blocks_for (size_of e))) (direct_of i e)) (range_with_len 0 6) ≡ true) × (legal_address limit (ltb 6 (blocks_for (size_of e))) (indirect_of e) ≡ true)
   unfolding legal_addresses
   both = and_parts _ _ h.addresses
 

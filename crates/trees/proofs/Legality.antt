@@ -1,11 +1,11 @@
 -- What is written passes the tests of blocks and entries.
 use Rattle.std.proofs.Common.{◌≡◌, ℕ, zero, suc, ◌+◌, ◌*◌, ◌^◌, ◌<◌, ◌≤◌, Bool, true, ◌&&◌, ltb, List, [], ◌∷◌, ◌++◌, map, length, get_or, take, drop, replicate, sym, refl, ap, ◌∙◌, subst, ⊎_elim, arith}
-use Rattle.std.specs.List.{range_with_len, flat_map, AllByRecursion}
+use Rattle.std.specs.List.{list_all, range_with_len, flat_map, AllByRecursion}
 use Rattle.std.specs.Str.{bytes_eq}
 use Rattle.std.proofs.ByRecursion.{All-get_or, All-map}
 use Rattle.std.proofs.lemmas.List.{get_or_past, take_at}
 use Rattle.std.proofs.lemmas.Bool.{cases_lt, and_from, or_right, lt-ltb, le-ltb, le-leb, eq-eqb}
-use Rattle.plain.specs.Names.{every, is_name}
+use Rattle.plain.specs.Names.{is_name}
 use Rattle.plain.specs.Trees.{slash}
 use Rattle.plain.proofs.Walking.{self_name}
 use Rattle.layout.specs.declared.block.Tag.TheVariants as tag
@@ -24,17 +24,17 @@ use Rattle.trees.specs.Lookups.{legal_ends, legal_directory, legal_indirect, leg
 use Rattle.trees.proofs.Readable.{Readable, address_small, read_mode, read_qid, read_size, read_direct, read_indirect, read_entries}
 
 module _ {X : Type 0} (f : X → Bool) where
-  every_all : (xs : List X) → AllByRecursion (λ x. f x ≡ true) xs → every f xs ≡ true
-  every_all [] h = refl
-  every_all (x ∷ xs) h = and_from (f x) (every f xs) h.0 (every_all xs h.1)
+  all_pass : (xs : List X) → AllByRecursion (λ x. f x ≡ true) xs → list_all f xs ≡ true
+  all_pass [] h = refl
+  all_pass (x ∷ xs) h = and_from (f x) (list_all f xs) h.0 (all_pass xs h.1)
 
-  every_replicate : (n : ℕ) (x : X) → f x ≡ true → every f (replicate n x) ≡ true
-  every_replicate zero x e = refl
-  every_replicate (suc n) x e = and_from (f x) _ e (every_replicate n x e)
+  all_pass_replicate : (n : ℕ) (x : X) → f x ≡ true → list_all f (replicate n x) ≡ true
+  all_pass_replicate zero x e = refl
+  all_pass_replicate (suc n) x e = and_from (f x) _ e (all_pass_replicate n x e)
 
-every_counting : (f : ℕ → Bool) (a n : ℕ) → ((j : ℕ) → j < a + n → f j ≡ true) → every f (range_with_len a n) ≡ true
-every_counting f a zero h = refl
-every_counting f a (suc n) h = and_from (f a) _ (h a (omega arith)) (every_counting f (a + 1) n (λ j lt. h j (omega arith)))
+all_pass_counting : (f : ℕ → Bool) (a n : ℕ) → ((j : ℕ) → j < a + n → f j ≡ true) → list_all f (range_with_len a n) ≡ true
+all_pass_counting f a zero h = refl
+all_pass_counting f a (suc n) h = and_from (f a) _ (h a (omega arith)) (all_pass_counting f (a + 1) n (λ j lt. h j (omega arith)))
 
 -- the ends of blocks
 ends : (tag owner : ℕ) (body : List ℕ) → length body ≡ 504 → tag < 2 ^ 16 → owner < 2 ^ 32 → legal_ends tag owner (block tag owner body) ≡ true
@@ -72,7 +72,7 @@ module _ (limit : ℕ) where
 
   pub legal_indirect_lem : (q n : ℕ) (l : List ℕ) → limit ≤ 65536 → AllByRecursion (InRange limit) l → length l ≡ n → n ≤ 126 → legal_indirect limit n (indirect_block q l) ≡ true
   legal_indirect_lem q n l few h long short =
-      every_counting _ 0 126 (λ j lt.
+      all_pass_counting _ 0 126 (λ j lt.
       ap (legal_address limit (ltb j n)) (indirect_address q l j (omega arith) (address_small limit few l h j)) ∙ legal_listed l h j n (λ below. omega arith) (λ past. omega arith))
 
 -- the name of an entry, and zeros after it
@@ -102,10 +102,10 @@ module _ (limit : ℕ) (e : Entry) (r : Readable limit e) where
   unfolding legal_addresses
   legal_addresses_lem =
       let blocks = blocks_for e.size in
-      ap (λ s. every (λ i. legal_address limit (ltb i (blocks_for s)) (direct_of i (entry_bytes e))) (range_with_len 0 6) && legal_address limit (ltb 6 (blocks_for s)) (indirect_of (entry_bytes e)))
+      ap (λ s. list_all (λ i. legal_address limit (ltb i (blocks_for s)) (direct_of i (entry_bytes e))) (range_with_len 0 6) && legal_address limit (ltb 6 (blocks_for s)) (indirect_of (entry_bytes e)))
       (read_size limit e r)
       ∙ and_from _ _
-      (every_counting (λ i. legal_address limit (ltb i blocks) (direct_of i (entry_bytes e))) 0 6 (λ i lt.
+      (all_pass_counting (λ i. legal_address limit (ltb i blocks) (direct_of i (entry_bytes e))) 0 6 (λ i lt.
       ap (legal_address limit (ltb i blocks)) (read_direct limit e r i)
       ∙ legal_listed limit e.direct r.direct i blocks (λ below. omega (arith, r.many)) (λ past. omega (arith, r.many))))
       (ap (legal_address limit (ltb 6 blocks)) (read_indirect limit e r) ∙ legal_in limit 6 blocks e.indirect r.indirect.0 r.indirect.1)
@@ -144,8 +144,8 @@ module _ (limit : ℕ) (e : Entry) (r : Readable limit e) where
       (eq-eqb _ _ qid))
       (lt-ltb _ _ (subst (λ q. q < next) (sym qid) below)))
       legal_addresses_lem)
-      (ap (λ l. every all_zero (drop 1 l)) (read_entries 0 (e ∷ replicate 6 empty_entry) refl)
-      ∙ every_replicate all_zero 6 (entry_bytes empty_entry) (ap all_zero empty_bytes))
+      (ap (λ l. list_all all_zero (drop 1 l)) (read_entries 0 (e ∷ replicate 6 empty_entry) refl)
+      ∙ all_pass_replicate all_zero 6 (entry_bytes empty_entry) (ap all_zero empty_bytes))
 
 -- an empty place, and a block of places
 module _ (limit next : ℕ) where
@@ -155,4 +155,4 @@ module _ (limit next : ℕ) where
 
   pub legal_directory_lem : (q : ℕ) (es : List Entry) → length es ≡ 7 → AllByRecursion (λ e. legal_entry limit next (entry_bytes e) ≡ true) es → legal_directory limit next (directory_block q es) ≡ true
   legal_directory_lem q es long h =
-      ap (every (legal_entry limit next)) (read_entries q es long) ∙ every_all (legal_entry limit next) (map entry_bytes es) (All-map (λ b. legal_entry limit next b ≡ true) entry_bytes es h)
+      ap (list_all (legal_entry limit next)) (read_entries q es long) ∙ all_pass (legal_entry limit next) (map entry_bytes es) (All-map (λ b. legal_entry limit next b ≡ true) entry_bytes es h)

@@ -11,7 +11,7 @@ use Rattle.std.proofs.lemmas.Bool.{and_parts, or_parts, eqb-true, eqb-false, eq-
 use Rattle.plain.specs.Names.{is_name}
 use Rattle.plain.specs.Trees.{free, Places, end, Place, flat, deep, put, size, has_name}
 use Rattle.plain.specs.Laws.{TidyDir}
-use Rattle.plain.proofs.Indices.{passing}
+use Rattle.std.specs.List.{count_by}
 use Rattle.layout.specs.declared.block.Tag.TheVariants as tag
 use Rattle.layout.specs.declared.entry.Mode.TheVariants as mode
 use Rattle.layout.specs.Blocks.{tag_number}
@@ -28,7 +28,7 @@ use Rattle.trees.proofs.Nodes.{uses_deep}
 use Rattle.trees.proofs.Erased.{map_size}
 use Rattle.trees.proofs.Reencodes.{Bytes72, directory_back, entries_bytes}
 use Rattle.trees.proofs.LegalEntries.{Node, entry_of, entry_back, empty_back, node, directory_size, directs_within, indirect_none, version_small}
-use Rattle.trees.proofs.Visits.{then_ok, test_ok, ok_same, Grown, grown_none, grown_then, grown_same, grown_one, Meets, met_once, Visited, visit_ok, Kept}
+use Rattle.trees.proofs.Visits.{then_ok, test_ok, ok_same, Grown, grown_none, grown_to, grown_then, grown_same, grown_one, Meets, met_once, Visited, visit_ok, Kept}
 use Rattle.trees.proofs.Represented.{plain_of, Represented, PlacePassed, represented_all, uses_from, named_from, entries_from, size_from, named_plain}
 use Rattle.trees.proofs.FileChecks.{file_passed, file_at, file_place}
 
@@ -115,7 +115,7 @@ named_by_entry m sub e n ne = ap (has_name n) (cond-false (eqb (mode_of e) 0) _ 
     go true = refl
     go false = refl
 
-not_named : (n : List ℕ) (names : List (List ℕ)) → check.has_name n names ≡ false → passing (bytes_eq n) names ≡ 0
+not_named : (n : List ℕ) (names : List (List ℕ)) → check.has_name n names ≡ false → count_by (bytes_eq n) names ≡ 0
 not_named n [] h = refl
 not_named n (x ∷ names) h =
     let both = or_parts (bytes_eq n x) (check.has_name n names) h in
@@ -145,7 +145,7 @@ module _ (m : BlockMap) (holds : HoldsBytes m) (limit next depth : ℕ) (deeper 
   named_in n es = sum_by (λ e. cond (has_name n (place e)) 1 0) es
 
   abbrev met_names : Met → List ℕ → ℕ
-  met_names met n = passing (bytes_eq n) met.names
+  met_names met n = count_by (bytes_eq n) met.names
 
   record PlacesPassed (es : List (List ℕ)) (met met' : Met) : Type 0 where
     pub each : AllByRecursion (λ e. Represented m limit next depth (put (place e) end)) es
@@ -186,7 +186,7 @@ module _ (m : BlockMap) (holds : HoldsBytes m) (limit next depth : ℕ) (deeper 
         subst (λ l. PlacePassed m limit next depth (place e) e met.addresses l) (ap (λ x. x.addresses) after)
             (subst (λ d. PlacePassed m limit next d (place e) e met.addresses step.0) (sym under.1) one),
         subst (λ x. Grown (met_names met) (λ n. cond (has_name n (place e)) 1 0) (met_names x)) after
-            (grown_same names (λ n. ap (λ t. cond t 1 0) (named_by_entry m sub e n ne))),
+            (grown_to (grown_same names (λ n. ap (λ t. cond t 1 0) (named_by_entry m sub e n ne))) (λ n. sum_by-cons (λ x. cond (bytes_eq n x) 1 0) (name_of e) met.names)),
       )
 
   places_passed : (holder : ℕ) (es : List (List ℕ)) (met met' : Met) → AllByRecursion Bytes72 es → check_places m limit next deeper test holder es met ≡ Ok met' → PlacesPassed es met met'

@@ -1,11 +1,10 @@
 -- What is legal in blocks is the encoding of what it reads as.
 use Rattle.std.proofs.Common.{◌≡◌, ℕ, zero, suc, ◌+◌, ◌*◌, ◌/◌, ◌%◌, ◌^◌, ◌<◌, ◌≤◌, Bool, true, ◌&&◌, eqb, ltb, leb, List, [], ◌∷◌, ◌++◌, map, length, get_or, take, drop, replicate, sym, refl, ap, ◌∙◌, subst, ⊎_elim, mul-zero, arith}
-use Rattle.std.specs.List.{range_with_len, flat_map, AllByRecursion}
+use Rattle.std.specs.List.{list_all, range_with_len, flat_map, AllByRecursion}
 use Rattle.std.proofs.lemmas.List.FromFn.{length-map-range_with_len, get_or-map-range_with_len}
 use Rattle.std.proofs.ByRecursion.{All-take, All-drop}
 use Rattle.std.proofs.lemmas.List.{length-take, length-drop, length-map, take-append-drop, take_all, drop_all, drop-drop, drop-replicate, get_or_past, ext_get_or}
 use Rattle.std.proofs.lemmas.Bool.{and_parts, eqb-true, leb-true, ltb-true, lt-ltb, le-ltb, cases_lt, cases_eq}
-use Rattle.plain.specs.Names.{every}
 use Rattle.layout.specs.declared.block.Tag.TheVariants as tag
 use Rattle.layout.specs.Numbers.{bytes16, bytes32, number16, number32, bytes_at, fit, all_zero}
 use Rattle.layout.specs.Blocks.{tag_number, body_of, pad_of, tag_of, owner_of, legal_pad, block, file_block, indirect_block, address_of}
@@ -155,12 +154,12 @@ unfolding file_block
 file_back owner b long is = ap (block (tag_number tag.File) owner) (fit_whole 504 0 (body_of b) (length_part 0 504 b (omega arith))) ∙ is
 
 -- what the tests of addresses say
-every_counting : (f : ℕ → Bool) (a n i : ℕ) → every f (range_with_len a n) ≡ true → a ≤ i → i < a + n → f i ≡ true
-every_counting f a zero i h low high = absurd (omega arith)
-every_counting f a (suc n) i h low high =
-    let both = and_parts (f a) (every f (range_with_len (a + 1) n)) h in
+passes_at : (f : ℕ → Bool) (a n i : ℕ) → list_all f (range_with_len a n) ≡ true → a ≤ i → i < a + n → f i ≡ true
+passes_at f a zero i h low high = absurd (omega arith)
+passes_at f a (suc n) i h low high =
+    let both = and_parts (f a) (list_all f (range_with_len (a + 1) n)) h in
     ⊎_elim (λ (e : a ≡ i). subst (λ x. f x ≡ true) e both.0)
-    (λ (ne : a ≡ i → ⊥). every_counting f (a + 1) n i both.1 (omega arith) (omega arith)) (cases_eq a i)
+    (λ (ne : a ≡ i → ⊥). passes_at f (a + 1) n i both.1 (omega arith) (omega arith)) (cases_eq a i)
 
 all_counting : {X : Type 0} (P : X → Type 0) (f : ℕ → X) (a n : ℕ) → ((j : ℕ) → a ≤ j → j < a + n → P (f j)) → AllByRecursion P (map f (range_with_len a n))
 all_counting P f a zero h = tt
@@ -175,13 +174,13 @@ module _ (limit i n a : ℕ) (legal : legal_address limit (ltb i n) a ≡ true) 
   pub address_unused : n ≤ i → a ≡ 0
   address_unused le = eqb-true a 0 (subst (λ t. legal_address limit t a ≡ true) (le-ltb i n le) legal)
 
-module _ (limit n k : ℕ) (f : ℕ → ℕ) (legal : every (λ j. legal_address limit (ltb j n) (f j)) (range_with_len 0 k) ≡ true) where
+module _ (limit n k : ℕ) (f : ℕ → ℕ) (legal : list_all (λ j. legal_address limit (ltb j n) (f j)) (range_with_len 0 k) ≡ true) where
   pub addresses_used : (l : ℕ) → l ≤ n → l ≤ k → AllByRecursion (InRange limit) (map f (range_with_len 0 l))
   addresses_used l le le' =
-      all_counting (InRange limit) f 0 l (λ j low high. address_used limit j n (f j) (every_counting (λ j. legal_address limit (ltb j n) (f j)) 0 k j legal low (omega arith)) (omega arith))
+      all_counting (InRange limit) f 0 l (λ j low high. address_used limit j n (f j) (passes_at (λ j. legal_address limit (ltb j n) (f j)) 0 k j legal low (omega arith)) (omega arith))
 
   pub addresses_unused : (j : ℕ) → n ≤ j → j < k → f j ≡ 0
-  addresses_unused j past lt = address_unused limit j n (f j) (every_counting (λ j. legal_address limit (ltb j n) (f j)) 0 k j legal (omega arith) (omega arith)) past
+  addresses_unused j past lt = address_unused limit j n (f j) (passes_at (λ j. legal_address limit (ltb j n) (f j)) 0 k j legal (omega arith) (omega arith)) past
 
 -- an indirect block
 pub indirect_back : (limit owner n : ℕ) (b : List ℕ) → n ≤ 126 → length b ≡ 512 → Bytes b → block (tag_number tag.Indirect) owner (body_of b) ≡ b →

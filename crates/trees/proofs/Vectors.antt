@@ -1,8 +1,7 @@
 -- The worked example is what the definitions make of it.
 use Rattle.std.proofs.Common.{◌≡◌, ℕ, ◌<◌, Bool, true, false, cond, ◌&&◌, eqb, ltb, List, [], ◌∷◌, length, Ok, refl, subst, arith}
-use Rattle.std.specs.List.{AllByRecursion}
+use Rattle.std.specs.List.{list_all, AllByRecursion}
 use Rattle.std.proofs.lemmas.Bool.{and_parts, ltb-true, eqb-true}
-use Rattle.plain.specs.Names.{every}
 use Rattle.layout.specs.Numbers.{bytes16, bytes32, number16, number32, fit}
 use Rattle.layout.specs.Blocks.{legal_pad, block, file_block, indirect_block}
 use Rattle.layout.specs.Entries.{entry_bytes, directory_block, legal_addresses, legal_name_field, legal_entry}
@@ -48,20 +47,20 @@ vectors = record {
 }
 
 -- the example's map holds blocks of 512 bytes
-bytes_below : (l : List ℕ) → every (λ x. ltb x 256) l ≡ true → AllByRecursion (λ x. x < 256) l
+bytes_below : (l : List ℕ) → list_all (λ x. ltb x 256) l ≡ true → AllByRecursion (λ x. x < 256) l
 bytes_below [] h = tt
-bytes_below (x ∷ l) h = let p = and_parts (ltb x 256) (every (λ y. ltb y 256) l) h in (ltb-true x 256 p.0, bytes_below l p.1)
+bytes_below (x ∷ l) h = let p = and_parts (ltb x 256) (list_all (λ y. ltb y 256) l) h in (ltb-true x 256 p.0, bytes_below l p.1)
 
 abbrev is_block : List ℕ → Bool
-is_block b = eqb (length b) 512 && every (λ x. ltb x 256) b
+is_block b = eqb (length b) 512 && list_all (λ x. ltb x 256) b
 
-holds_bytes : (bs : List (ℕ × List ℕ)) → every (λ b. is_block b.1) bs ≡ true → HoldsBytes (holding bs)
+holds_bytes : (bs : List (ℕ × List ℕ)) → list_all (λ b. is_block b.1) bs ≡ true → HoldsBytes (holding bs)
 holds_bytes [] h a b e = let z : ◌≡◌ {A = ℕ} 0 1 = cc in absurd (omega arith)
 holds_bytes (x ∷ bs) h a b e =
-    let p = and_parts (is_block x.1) (every (λ y. is_block y.1) bs) h in
-    by (eqb a x.0) (and_parts (eqb (length x.1) 512) (every (λ y. ltb y 256) x.1) p.0) (holds_bytes bs p.1 a b) e
+    let p = and_parts (is_block x.1) (list_all (λ y. is_block y.1) bs) h in
+    by (eqb a x.0) (and_parts (eqb (length x.1) 512) (list_all (λ y. ltb y 256) x.1) p.0) (holds_bytes bs p.1 a b) e
   where
-    by : (t : Bool) → (eqb (length x.1) 512 ≡ true) × (every (λ y. ltb y 256) x.1 ≡ true) → (holding bs a ≡ Ok b → (length b ≡ 512) × AllByRecursion (λ y. y < 256) b) →
+    by : (t : Bool) → (eqb (length x.1) 512 ≡ true) × (list_all (λ y. ltb y 256) x.1 ≡ true) → (holding bs a ≡ Ok b → (length b ≡ 512) × AllByRecursion (λ y. y < 256) b) →
         cond t (Ok x.1) (holding bs a) ≡ Ok b → (length b ≡ 512) × AllByRecursion (λ y. y < 256) b
     by true q rest e =
         let same : x.1 ≡ b = cc in

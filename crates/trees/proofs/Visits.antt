@@ -32,6 +32,9 @@ module _ {X : Type 0} where
   pub grown_none : {f g : X → ℕ} → ((x : X) → g x ≡ 0) → Grown f g f
   grown_none none = record { counted = λ x. omega (arith, none x); once = λ h. h }
 
+  pub grown_to : {f g h k : X → ℕ} → Grown f g h → ((x : X) → k x ≡ h x) → Grown f g k
+  grown_to p same = record { counted = λ x. same x ∙ p.counted x; once = λ low x. rw same (p.once low x) }
+
   pub grown_then : {f g h g' k more : X → ℕ} → Grown f g h → Grown h g' k → ((x : X) → more x ≡ g x + g' x) → Grown f more k
   grown_then p q sum = record { counted = λ x. omega (arith, p.counted x, q.counted x, sum x); once = λ before. q.once (p.once before) }
 

@@ -1,9 +1,8 @@
 -- Look-ups in blocks that may be damaged: each judges what it passes, and fails at the first block that is not as it should be.
 use Rattle.std.specs.Prelude.{ℕ, ◌+◌, ◌-◌, ◌*◌, ◌/◌, ◌%◌, min, Bool, cond, not, ◌&&◌, List, [], ◌∷◌, ◌++◌, map, take, drop, replicate, Some, None, Ok, Err, Option, Result, ◌==◌, nat_le, nat_lt}
-use Rattle.std.specs.List.{range_with_len}
+use Rattle.std.specs.List.{list_all, range_with_len}
 use Rattle.std.specs.Str.{bytes_eq}
 use Rattle.device.specs.Refusals.{Refusal}
-use Rattle.plain.specs.Names.{every}
 use Rattle.plain.specs.Trees.{slash}
 use Rattle.plain.specs.Operations.{Stat}
 use Rattle.layout.specs.declared.block.Tag.TheVariants as tag
@@ -36,10 +35,10 @@ abbrev pub legal_ends : ℕ → ℕ → List ℕ → Bool
 legal_ends tag owner b = legal_pad (pad_of b) && tag_of b == tag && owner_of b == owner
 
 abbrev pub legal_directory : ℕ → ℕ → List ℕ → Bool
-legal_directory limit next b = every (legal_entry limit next) (entries_of b)
+legal_directory limit next b = list_all (legal_entry limit next) (entries_of b)
 
 abbrev pub legal_indirect : ℕ → ℕ → List ℕ → Bool
-legal_indirect limit n b = every (λ j. legal_address limit (nat_lt j n) (address_of j b)) (range_with_len 0 126)
+legal_indirect limit n b = list_all (λ j. legal_address limit (nat_lt j n) (address_of j b)) (range_with_len 0 126)
 
 -- the root block: the entry of "/", of any version, and six empty places
 abbrev pub legal_root_entry : ℕ → ℕ → List ℕ → Bool
@@ -49,7 +48,7 @@ legal_root_entry limit next e =
     && qid_of e == 1 && nat_lt (qid_of e) next && legal_addresses limit e
 
 abbrev pub legal_root : ℕ → ℕ → List ℕ → Bool
-legal_root limit next b = legal_root_entry limit next (entry_at 0 b) && every all_zero (drop 1 (entries_of b))
+legal_root limit next b = legal_root_entry limit next (entry_at 0 b) && list_all all_zero (drop 1 (entries_of b))
 
 -- an empty place
 abbrev pub no_entry : List ℕ
