@@ -72,6 +72,9 @@ impl fmt::Display for DeviceFault {
 
 impl Error for DeviceFault {}
 
+// Every device passes its label and its size. A provided method of `Device` would spare that, but the check does not cover an impl whose
+// methods call one.
+
 /// The refusals that do not look at the block: a buffer of `len` bytes that is no block, and a block past the end.
 pub fn admit(label: u8, size: u32, block: u32, len: usize) -> Result<(), DeviceFault>
     ensures { told result ≡ admission label size block len }

@@ -73,6 +73,8 @@ pub fn new_block(tag: Tag, owner: u32) -> [u8; BLOCK_LEN]
     bytes
 }
 
+// Each writer tests its own limit: a line in each, and the limits and what is written differ.
+
 /// Writes the k-th entry of a directory block. From 7 on there is none, and nothing changes.
 pub fn write_entry(bytes: &mut [u8; BLOCK_LEN], k: usize, entry: &Entry) -> Result<(), NoSuchPlace>
     ensures done { is_ok result ≡ nat_lt k 7 }
@@ -165,7 +167,7 @@ impl<'a> BlockView<'a> {
         nth_number(&bytes[..BODY_LEN], j)
     }
 
-    /// Whether the block is a super, whatever its numbers are.
+    /// Whether the block is a super, whatever its numbers are. The tag is compared as a number: one is asked for, and a block may hold any.
     pub fn is_legal_super(&self) -> bool
         ensures { result ≡ legal_super self.now.bytes.now }
     {

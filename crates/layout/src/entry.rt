@@ -237,7 +237,7 @@ impl<'a> EntryView<'a> {
     }
 }
 
-/// Whether an address is in range, if it is used, and else 0.
+/// Whether an address is in range, if it is used, and else 0. The size says whether it is used; nothing keeps that with the address.
 fn address_is_legal(limit: u32, used: bool, address: u32) -> bool
     ensures { result ≡ legal_address limit used address }
 {

@@ -69,6 +69,8 @@ impl Number for u32 {
     }
 }
 
+// Each of the next three asks that the bytes are there: the offset is the caller's.
+
 /// The number in the bytes from `at` on.
 pub(crate) fn get<N: Number, const LEN: usize>(bytes: &[u8; LEN], at: usize) -> N
     requires { at + N.SIZE ≤ LEN }

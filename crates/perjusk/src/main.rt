@@ -25,6 +25,8 @@ fn main(rt: HostRuntime) -> io::Result<()> {
 /// Where the table lies on the pile.
 pub(crate) const TABLE: u32 = 16;
 
+// The runtime is a handle, and is passed on beside the pile as it is: a struct of the two would be no plainer.
+
 /// Writes the table, block by block.
 fn store<D: Device>(rt: &impl Print, pile: &mut D) -> io::Result<()> {
     for block in 0..TABLE_BLOCKS {

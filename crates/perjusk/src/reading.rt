@@ -52,6 +52,7 @@ fn show_directory<D: Device>(
         return println!(rt; "directory block {address}: {fault}");
     }
     let view = BlockView::new(&bytes);
+    // By number, which is printed.
     for k in 0..ENTRY_COUNT {
         let entry = view.entry(k);
         if !entry.is_legal(pile.size(), next_qid) {

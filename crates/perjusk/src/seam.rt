@@ -3,7 +3,7 @@ ghost use Rattle.std.specs.Prelude.{◌<◌, ◌≤◌};
 
 use device::fault::{BLOCK_LEN, DeviceFault};
 use device::interface::Device;
-use std::fmt;
+use std::{array, fmt};
 
 /// The levels of a row, at one byte each.
 const COLUMNS: usize = 64;
@@ -92,11 +92,7 @@ impl Part {
 
     /// Its levels, row by row.
     pub(crate) fn levels(self) -> [u8; BLOCK_LEN] {
-        let mut levels = [0; BLOCK_LEN];
-        for (i, level) in levels.iter_mut().enumerate() {
-            *level = self.field.level(self.first_row * COLUMNS + i);
-        }
-        levels
+        array::from_fn(|i| self.field.level(self.first_row * COLUMNS + i))
     }
 
     /// Whether a block of a device holds the part, or why it can't be read.

@@ -3,7 +3,7 @@ ghost use Rattle.std.specs.Prelude.{◌≡◌, ◌<◌, length, MatchOption};
 
 use std::marker::Model;
 
-/// At most `N` bytes, in memory of its own, since no call of a view or a parser allocates.
+/// At most `N` bytes, in memory of its own: no parser allocates, and a text that borrowed would ask its callers to keep the bytes.
 #[derive(Clone, Copy, PartialEq, Eq, Debug)]
 pub struct Text<const N: usize> {
     bytes: [u8; N],
