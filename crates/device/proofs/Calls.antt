@@ -2,7 +2,7 @@
 use Rattle.std.proofs.Common.{◌≡◌, ℕ, ◌<◌, Bool, true, false, cond, eqb, ltb, List, length, is_ok, IsErrAnd, Ok, Err, sym, refl, ap, ◌∙◌, ⊎_elim, arith}
 use Rattle.std.proofs.lemmas.List.{get_or_past}
 use Rattle.std.proofs.lemmas.Result.{err_from_is_err_and}
-use Rattle.std.proofs.lemmas.Bool.{eq-eqb, lt-ltb, le-ltb, eqb-true, ltb-true, cases_lt}
+use Rattle.std.proofs.lemmas.Bool.{false≢true, eq-eqb, lt-ltb, le-ltb, eqb-true, ltb-true, cases_lt}
 use Rattle.device.specs.declared.fault.Place.{Place}
 use Rattle.device.specs.declared.fault.DeviceFault.{DeviceFault}
 use Rattle.device.specs.declared.cell_state.CellState.{CellState}
@@ -18,8 +18,8 @@ admitted m s b n sized e = by (eqb n 512) (ltb b s) (eqb-true n 512) (ltb-true b
     by : (x y : Bool) → (x ≡ true → n ≡ 512) → (y ≡ true → b < s) → ◌≡◌ {A = Outcome} (Ok tt) (cond x (cond y (Ok tt) (refused 2 m.label b)) (refused 1 m.label b)) →
         (n ≡ 512) × (b < size m)
     by true true f g e = (f refl, rw sized at (g refl))
-    by true false f g e = let z : ◌≡◌ {A = ℕ} 0 1 = cc in absurd (omega arith)
-    by false y f g e = let z : ◌≡◌ {A = ℕ} 0 1 = cc in absurd (omega arith)
+    by true false f g e = absurd (false≢true cc)
+    by false y f g e = absurd (false≢true cc)
 
 -- and the other way round
 admits : (m : Meaning) (b n : ℕ) → n ≡ 512 → b < size m → admission m.label (size m) b n ≡ Ok tt

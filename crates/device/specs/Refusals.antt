@@ -11,8 +11,8 @@ pub record Refusal : Type 0 where
 
 -- each case of a fault, by its number and its values
 abbrev pub shown : DeviceFault → Refusal
-shown (BadBuffer l b) = record { number = 1; label = l; block = b }
-shown (PastEnd l b) = record { number = 2; label = l; block = b }
+shown (BadBuffer p) = record { number = 1; label = p.label; block = p.block }
+shown (PastEnd p) = record { number = 2; label = p.label; block = p.block }
 shown (Blank p) = record { number = 3; label = p.label; block = p.block }
 shown (AlreadyHeld p) = record { number = 4; label = p.label; block = p.block }
 shown (Spoiled p) = record { number = 5; label = p.label; block = p.block }

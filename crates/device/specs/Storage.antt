@@ -13,11 +13,14 @@ use Rattle.device.specs.Meaning.{Cell, blank, held, spoiled, Meaning}
 abbrev pub disc_size : List ℕ → ℕ
 disc_size storage = min (length storage / 513) 65536
 
--- a state byte that stands for the state; a spoiled block may have any other, and on a rewritable disc 0
+-- the byte that stands for a state, and the state that a byte stands for; on a rewritable disc a blank byte means spoiled
 abbrev pub state_byte : CellState → ℕ
 state_byte Blank = 0
 state_byte Held = 1
 state_byte Spoiled = 2
+
+abbrev pub state_of_byte : ℕ → CellState
+state_of_byte byte = cond (byte == 1) Held (cond (byte == 0) Blank Spoiled)
 
 -- what a state byte of 0 means
 abbrev pub zero_cell : Kind → Cell

@@ -6,7 +6,7 @@ use Rattle.device.specs.declared.cell_state.CellState.TheVariants.{Blank, Held, 
 use Rattle.device.specs.Refusals.{refused}
 use Rattle.device.specs.Meaning.{blank, held, spoiled, Meaning}
 use Rattle.device.specs.Calls.{read_outcome, write_outcome}
-use Rattle.device.specs.Storage.{state_byte, disc_size, cell_from, disc_cell, place_on}
+use Rattle.device.specs.Storage.{state_byte, state_of_byte, disc_size, cell_from, disc_cell, place_on}
 
 -- 512 nines after a state byte
 abbrev nines : ℕ → List ℕ
@@ -29,6 +29,7 @@ pub record Vectors : Type 0 where
   pub two : (k : Kind) → disc_cell k (nines 2) 0 ≡ spoiled
   pub second : (k : Kind) → disc_cell k (nines 2 ++ nines 1) 1 ≡ held (replicate 512 9)
   -- what a state byte stands for is read back
+  pub states_back : (state_of_byte (state_byte Blank) ≡ Blank) × (state_of_byte (state_byte Held) ≡ Held) × (state_of_byte (state_byte Spoiled) ≡ Spoiled)
   pub byte_held : (k : Kind) (bytes : List ℕ) → cell_from k (state_byte Held) bytes ≡ held bytes
   pub byte_blank : (bytes : List ℕ) → cell_from WriteOnce (state_byte Blank) bytes ≡ blank
   pub byte_spoiled : (k : Kind) (bytes : List ℕ) → cell_from k (state_byte Spoiled) bytes ≡ spoiled

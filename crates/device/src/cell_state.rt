@@ -1,14 +1,14 @@
-//! What a block's cell is, without its contents, and what it lets a caller do.
+//! The states of cells: how they are found, what they let a caller do, and the bytes that stand for them.
 ghost use Rattle.std.specs.Prelude.{◌≡◌};
 ghost use Rattle.device.specs.Refusals.{told};
 ghost use Rattle.device.specs.Meaning.{cell};
-ghost use Rattle.device.specs.Storage.{state_byte};
+ghost use Rattle.device.specs.Storage.{state_byte, state_of_byte};
 ghost use Rattle.device.specs.Calls.{read_state, write_state, state_of, state_told};
 
 use crate::fault::{BLOCK_LEN, DeviceFault, Place};
 use crate::interface::{Device, Kind};
 
-/// What a block's cell is, without its contents.
+/// What a block's cell is, without its contents. The numbers are the bytes of a disc's storage.
 #[derive(Clone, Copy, PartialEq, Eq, Debug)]
 pub enum CellState {
     /// Never written, on a write-once device.
@@ -52,10 +52,10 @@ impl CellState {
     }
 }
 
+/// The state that the answer to a read tells.
 impl From<Result<(), DeviceFault>> for CellState {
     ghost from_gives = { λ answer state. state ≡ state_told (told answer) };
 
-    /// The state that the answer to a read tells.
     fn from(answer: Result<(), DeviceFault>) -> CellState {
         match answer {
             Ok(()) => CellState::Held,
@@ -65,10 +65,23 @@ impl From<Result<(), DeviceFault>> for CellState {
     }
 }
 
+/// The state that a state byte stands for.
+impl From<u8> for CellState {
+    ghost from_gives = { λ byte state. state ≡ state_of_byte byte };
+
+    fn from(byte: u8) -> CellState {
+        match byte {
+            0 => CellState::Blank,
+            1 => CellState::Held,
+            _ => CellState::Spoiled,
+        }
+    }
+}
+
+/// The state byte that stands for the state.
 impl From<CellState> for u8 {
     ghost from_gives = { λ state byte. byte ≡ state_byte state };
 
-    /// The state byte that stands for the state in a disc's storage.
     fn from(state: CellState) -> u8 {
         state as u8
     }

@@ -11,11 +11,6 @@ use crate::interface::{Device, Kind, MOST_BLOCKS};
 /// The bytes of storage for each block: its state and its contents.
 const STRIDE: usize = BLOCK_LEN + 1;
 
-// The state bytes that `Disc::state` tells apart.
-const BLANK: u8 = CellState::Blank as u8;
-
-const HELD: u8 = CellState::Held as u8;
-
 /// A disc of either kind, over storage of any length: what is left over after the last whole block is not used.
 #[derive(Drop)]
 pub struct Disc {
@@ -47,10 +42,9 @@ impl Disc {
         requires { block < disc_size (vec_items self.now.storage) }
         ensures { result ≡ state_of (disc_cell self.now.kind (vec_items self.now.storage) block) }
     {
-        match (self.storage[block as usize * STRIDE], self.kind) {
-            (HELD, _) => CellState::Held,
-            (BLANK, Kind::WriteOnce) => CellState::Blank,
-            _ => CellState::Spoiled,
+        match (CellState::from(self.storage[block as usize * STRIDE]), self.kind) {
+            (CellState::Blank, Kind::Rewritable) => CellState::Spoiled,
+            (state, _) => state,
         }
     }
 }
@@ -62,7 +56,7 @@ fn store(storage: &mut [u8], block: u32, buf: &[u8])
     ensures { storage.new ≡ stored storage.old block buf.now }
 {
     let at = block as usize * STRIDE;
-    storage[at] = HELD;
+    storage[at] = u8::from(CellState::Held);
     storage[at + 1..at + STRIDE].copy_from_slice(buf);
 }
 

@@ -8,21 +8,21 @@ use std::fmt;
 /// The bytes of a block.
 pub const BLOCK_LEN: usize = 512;
 
-/// Where a block lies: a device's label and a block number there.
+/// Where a block lies, or was sought: a device's label and a block number there.
 #[derive(Clone, Copy, PartialEq, Eq, Debug)]
 pub struct Place {
     pub label: u8,
     pub block: u32,
 }
 
-/// Why a device refused a read or a write. The first two name the device asked and the block given, the others the
-/// block's place.
+/// Why a device refused a read or a write. The place of the first two is the device asked and the block given, that of the others is where the
+/// block lies.
 #[derive(Clone, Copy, PartialEq, Eq, Debug)]
 pub enum DeviceFault {
     /// The buffer is not 512 bytes long.
-    BadBuffer { label: u8, block: u32 },
+    BadBuffer { place: Place },
     /// The block is at or past the device's size.
-    PastEnd { label: u8, block: u32 },
+    PastEnd { place: Place },
     /// A read of a blank block.
     Blank { place: Place },
     /// A write of a held block on a write-once device.
@@ -50,10 +50,9 @@ impl DeviceFault {
         ensures { result ≡ record { label = (shown self).label; block = (shown self).block } }
     {
         match self {
-            DeviceFault::BadBuffer { label, block } | DeviceFault::PastEnd { label, block } => {
-                Place { label, block }
-            }
-            DeviceFault::Blank { place }
+            DeviceFault::BadBuffer { place }
+            | DeviceFault::PastEnd { place }
+            | DeviceFault::Blank { place }
             | DeviceFault::AlreadyHeld { place }
             | DeviceFault::Spoiled { place } => place,
         }
@@ -72,18 +71,19 @@ impl fmt::Display for DeviceFault {
 
 impl Error for DeviceFault {}
 
-// Every device passes its label and its size. A provided method of `Device` would spare that, but the check does not cover an impl whose
-// methods call one.
+// Every device passes its label and its size. Tried: a provided method of `Device`, and a function over any `D: Device`; the check does not
+// cover an impl whose methods call either.
 
 /// The refusals that do not look at the block: a buffer of `len` bytes that is no block, and a block past the end.
 pub fn admit(label: u8, size: u32, block: u32, len: usize) -> Result<(), DeviceFault>
     ensures { told result ≡ admission label size block len }
 {
+    let place = Place { label, block };
     if len != BLOCK_LEN {
-        return Err(DeviceFault::BadBuffer { label, block });
+        return Err(DeviceFault::BadBuffer { place });
     }
     if block >= size {
-        return Err(DeviceFault::PastEnd { label, block });
+        return Err(DeviceFault::PastEnd { place });
     }
     Ok(())
 }

@@ -1,6 +1,7 @@
 -- What two devices side by side have of each.
 use Rattle.std.specs.Prelude.{◌≡◌, ℕ, ◌<◌, true, false, cond, List, length, IsErrAnd, Ok, Err, ◌≢◌, refl}
-use Rattle.std.proofs.Common.{sym, ap, ◌∙◌, subst, arith}
+use Rattle.std.proofs.Common.{sym, ap, ◌∙◌, subst}
+use Rattle.std.proofs.lemmas.Bool.{false≢true}
 use Rattle.device.specs.declared.fault.Place.{Place}
 use Rattle.device.specs.declared.fault.DeviceFault.{DeviceFault}
 use Rattle.device.specs.declared.interface.Kind.{Kind}
@@ -30,8 +31,8 @@ merged spoiled spoiled = refl
 -- a read that the first side accepts, and one that it refuses
 first_contents : (x y : Cell) (buf : List ℕ) → state_of x ≡ Held → (state_of (mirror_cell x y) ≡ Held) × (contents x buf ≡ contents (mirror_cell x y) buf)
 first_contents (held bytes) y buf e = (refl, refl)
-first_contents blank y buf e = let z : ◌≡◌ {A = ℕ} 0 1 = cc in absurd (omega arith)
-first_contents spoiled y buf e = let z : ◌≡◌ {A = ℕ} 0 1 = cc in absurd (omega arith)
+first_contents blank y buf e = absurd (false≢true cc)
+first_contents spoiled y buf e = absurd (false≢true cc)
 
 second_contents : (x y : Cell) (buf : List ℕ) → (state_of x ≢ Held) → (contents x buf ≡ buf) × (contents y buf ≡ contents (mirror_cell x y) buf)
 second_contents (held bytes) y buf ne = absurd (ne refl)
@@ -132,8 +133,8 @@ module _ (l : ℕ) (a b : Meaning) where
 
             by : (v : CellState) {m' : Meaning} → v ≡ state_of (cell m i) → ((v ≢ Spoiled) → write_state m.kind (m.place i) v ≡ Ok tt) →
                 SideWrites v m i buf r m' → (r ≡ Ok tt) × (m' ≡ side_after true m i buf)
-            by Blank is_v takes h = let ne : Blank ≡ Spoiled → ⊥ = λ e. let z : ◌≡◌ {A = ℕ} 0 1 = cc in omega arith in sent Blank is_v ne (takes ne) h
-            by Held is_v takes h = let ne : Held ≡ Spoiled → ⊥ = λ e. let z : ◌≡◌ {A = ℕ} 0 1 = cc in omega arith in sent Held is_v ne (takes ne) h
+            by Blank is_v takes h = let ne : Blank ≡ Spoiled → ⊥ = λ e. false≢true cc in sent Blank is_v ne (takes ne) h
+            by Held is_v takes h = let ne : Held ≡ Spoiled → ⊥ = λ e. false≢true cc in sent Held is_v ne (takes ne) h
             by Spoiled is_v takes h = let x = is_lost (cell m i) (sym is_v) in (h.0, h.1 ∙ simp x)
 
         pub first_written : (r : Answer) {a' : Meaning} → SideWrites s a i buf r a' → (r ≡ Ok tt) × (a' ≡ side_after true a i buf)

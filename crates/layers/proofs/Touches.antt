@@ -1,7 +1,7 @@
 -- A device of which at most one cell has changed.
 use Rattle.std.specs.Prelude.{◌≡◌, ℕ, ◌<◌, Bool, true, false, cond, List, Ok, Err, ◌≢◌, refl}
-use Rattle.std.proofs.Common.{arith}
 use Rattle.std.proofs.lemmas.List.{length-set, get_or-set_same, get_or-set_other}
+use Rattle.std.proofs.lemmas.Bool.{false≢true}
 use Rattle.device.specs.declared.fault.DeviceFault.{DeviceFault}
 use Rattle.device.specs.Refusals.{Answer, told}
 use Rattle.device.specs.Meaning.{Cell, held, spoiled, Meaning, size, cell, put}
@@ -32,4 +32,4 @@ accepted (Err f) e = cc
 
 -- no answer is both accepted and refused
 pub never : {r : Answer} {e : DeviceFault} → r ≡ Ok tt → r ≢ Err e
-never {r} {e} p q = let z : ◌≡◌ {A = ℕ} 0 1 = cc in omega arith
+never {r} {e} p q = false≢true cc

@@ -2,7 +2,7 @@
 use Rattle.std.specs.Prelude.{◌≡◌, ℕ, ◌+◌, ◌/◌, ◌<◌, Bool, true, false, cond, List, [], length, is_ok, IsErrAnd, Ok, Err, ◌≢◌, refl}
 use Rattle.std.proofs.Common.{sym, ap, ◌∙◌, subst, ⊎_elim, arith}
 use Rattle.std.proofs.lemmas.List.{length-set}
-use Rattle.std.proofs.lemmas.Bool.{cases_eq}
+use Rattle.std.proofs.lemmas.Bool.{false≢true, cases_eq}
 use Rattle.device.specs.declared.fault.Place.{Place}
 use Rattle.device.specs.declared.fault.DeviceFault.{DeviceFault}
 use Rattle.device.specs.declared.fault.DeviceFault.TheVariants as Fault
@@ -48,9 +48,9 @@ module _ (m : Meaning) (i : ℕ) (buf : List ℕ) (r : Answer) (p : Place) (whol
   unread e h is = by (state_of (cell m i)) (is ∙ ap (or_spoiled p) (read_out m i buf r whole inside h).0)
     where
       by : (s : CellState) → ◌≡◌ {A = Outcome} (Err e) (or_spoiled p (read_state (m.place i) s)) → (s ≢ Held) × ◌≡◌ {A = Outcome} (Err e) (refused 5 p.label p.block)
-      by Blank is = (λ z. let y : ◌≡◌ {A = ℕ} 0 1 = cc in omega arith, is)
-      by Held is = (λ _. let y : ◌≡◌ {A = ℕ} 0 1 = cc in omega arith, cc)
-      by Spoiled is = (λ z. let y : ◌≡◌ {A = ℕ} 0 1 = cc in omega arith, is)
+      by Blank is = (λ z. false≢true cc, is)
+      by Held is = (λ _. false≢true cc, cc)
+      by Spoiled is = (λ z. false≢true cc, is)
 
   pub was_read : {buf' : List ℕ} {m' : Meaning} → Reads m i buf r buf' m' → ◌≡◌ {A = Outcome} (Ok tt) (or_spoiled p (told r)) → cell m i ≡ held buf'
   was_read {buf'} h is = let o = read_out m i buf r whole inside h in by (cell m i) o.1 (is ∙ ap (or_spoiled p) o.0)
@@ -70,10 +70,10 @@ module _ (m : Meaning) (i : ℕ) (buf : List ℕ) (r : Answer) (p : Place) (whol
       where
         by : (r : Answer) (s : CellState) → ◌≡◌ {A = Outcome} (Err e) (or_spoiled p (told r)) → told r ≡ write_state Rewritable (m.place i) s → m' ≡ cond (is_ok r) (put m i buf) m →
             (s ≢ Held) × ◌≡◌ {A = Outcome} (Err e) (refused 5 p.label p.block) × (m' ≡ m)
-        by (Ok x) s is out after = (λ _. let y : ◌≡◌ {A = ℕ} 0 1 = cc in omega arith, cc, cc)
-        by (Err f) Blank is out after = (λ _. let y : ◌≡◌ {A = ℕ} 0 1 = cc in omega arith, is, after)
-        by (Err f) Held is out after = (λ _. let y : ◌≡◌ {A = ℕ} 0 1 = cc in omega arith, is, after)
-        by (Err f) Spoiled is out after = (λ z. let y : ◌≡◌ {A = ℕ} 0 1 = cc in omega arith, is, after)
+        by (Ok x) s is out after = (λ _. false≢true cc, cc, cc)
+        by (Err f) Blank is out after = (λ _. false≢true cc, is, after)
+        by (Err f) Held is out after = (λ _. false≢true cc, is, after)
+        by (Err f) Spoiled is out after = (λ z. false≢true cc, is, after)
 
     -- a rewritable device has no blank cell
     pub was_written : Sound m → ◌≡◌ {A = Outcome} (Ok tt) (or_spoiled p (told r)) → (state_of (cell m i) ≡ Held) × (m' ≡ put m i buf)
@@ -82,7 +82,7 @@ module _ (m : Meaning) (i : ℕ) (buf : List ℕ) (r : Answer) (p : Place) (whol
         by : (r : Answer) (x : Cell) → Legal Rewritable x → ◌≡◌ {A = Outcome} (Ok tt) (or_spoiled p (told r)) → told r ≡ write_state Rewritable (m.place i) (state_of x) → m' ≡ cond (is_ok r) (put m i buf) m →
             (state_of x ≡ Held) × (m' ≡ put m i buf)
         by (Err f) x ok is out after = (cc, cc)
-        by (Ok y) blank ok is out after = let z : ◌≡◌ {A = ℕ} 0 1 = cc in absurd (omega arith)
+        by (Ok y) blank ok is out after = absurd (false≢true cc)
         by (Ok y) (held bytes) ok is out after = (refl, after)
         by (Ok y) spoiled ok is out after = (cc, after)
 

@@ -1,6 +1,6 @@
 -- Numbers in bytes, and lists that are joined of parts of one length.
 use Rattle.std.proofs.Common.{◌≡◌, ℕ, zero, suc, ◌+◌, ◌*◌, ◌/◌, ◌^◌, ◌<◌, ◌≤◌, List, [], ◌∷◌, ◌++◌, length, get_or, take, drop, set, sym, refl, ap, ◌∙◌, ⊎_elim, mul-le-mul_left, mul-zero, mul-suc, arith}
-use native.Mathlib.Nat.{div-div-eq-div-mul}
+use Rattle.std.proofs.lemmas.Nat.{from_be_bytes-to_be_bytes_2, from_be_bytes-to_be_bytes_4}
 use lib.Seq.{take-append-add}
 use Rattle.std.specs.List.{flat_map}
 use Rattle.std.proofs.lemmas.List.{length-append, append_assoc, get_or_past, take_at, take_all, drop_all}
@@ -18,14 +18,11 @@ length_bytes32 n = refl
 
 pub number16_bytes16 : (n : ℕ) → n < 2 ^ 16 → number16 (bytes16 n) ≡ n
 unfolding bytes16 number16
-number16_bytes16 n h = omega arith
+number16_bytes16 n h = from_be_bytes-to_be_bytes_2 n h
 
 pub number32_bytes32 : (n : ℕ) → n < 2 ^ 32 → number32 (bytes32 n) ≡ n
 unfolding bytes32 number32
-number32_bytes32 n h =
-    let two : n / 65536 ≡ n / 256 / 256 = sym (div-div-eq-div-mul n 256 256) in
-    let three : n / 16777216 ≡ n / 256 / 256 / 256 = sym (ap (λ k. k / 256) (div-div-eq-div-mul n 256 256) ∙ div-div-eq-div-mul n 65536 256) in
-    rw (three, two) (omega arith)
+number32_bytes32 n h = from_be_bytes-to_be_bytes_4 n h
 
 module _ {X : Type 0} (f : X → List ℕ) (n : ℕ) (len : (x : X) → length (f x) ≡ n) where
   pub length_joined : (xs : List X) → length (flat_map f xs) ≡ n * length xs

@@ -1,5 +1,5 @@
 -- Entries of 72 bytes, of which a directory block has seven.
-use Rattle.std.specs.Prelude.{◌≡◌, ◌≢◌, ℕ, zero, suc, ◌+◌, ◌-◌, ◌*◌, ◌/◌, ◌%◌, Bool, cond, ◌&&◌, ◌||◌, List, [], ◌∷◌, ◌++◌, length, drop, ◌==◌, nat_le, nat_lt, Result, MatchResult}
+use Rattle.std.specs.Prelude.{◌≡◌, ◌≢◌, ℕ, zero, suc, ◌+◌, ◌-◌, ◌*◌, ◌/◌, ◌%◌, Bool, cond, ◌&&◌, ◌||◌, List, [], ◌∷◌, ◌++◌, length, drop, codes, ◌==◌, nat_le, nat_lt, Result, MatchResult}
 use Rattle.std.specs.List.{list_all, range_with_len, flat_map}
 use Rattle.plain.specs.Names.{is_name}
 use Rattle.layout.specs.declared.block.Tag.TheVariants as tag
@@ -26,6 +26,11 @@ pub record Entry : Type 0 where
 abbrev pub mode_number : Mode → ℕ
 mode_number File = 0x8000
 mode_number Directory = 0xC000
+
+-- what a mode is called
+abbrev pub mode_text : Mode → List ℕ
+mode_text File = codes "file"
+mode_text Directory = codes "directory"
 
 -- the number of no mode is refused
 pub record NoMode (number : ℕ) (refused : NoSuchMode) : Type 0 where

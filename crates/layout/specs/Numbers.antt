@@ -1,20 +1,21 @@
 -- Big-endian numbers, parts of lists of bytes, and lists of a fixed length.
 use Rattle.std.specs.Prelude.{ℕ, ◌+◌, ◌*◌, ◌/◌, ◌%◌, Bool, List, [], ◌∷◌, ◌++◌, length, take, drop, replicate, nat_eq, slice_index}
+use Rattle.std.specs.Int.{w16, w32, to_be_bytes, from_be_bytes}
 use Rattle.std.specs.List.{list_all}
 
 -- a number in two bytes, and in four
 unfoldable pub bytes16 : ℕ → List ℕ
-bytes16 n = n / 256 % 256 ∷ n % 256 ∷ []
+bytes16 n = to_be_bytes w16 n
 
 unfoldable pub bytes32 : ℕ → List ℕ
-bytes32 n = n / 16777216 % 256 ∷ n / 65536 % 256 ∷ n / 256 % 256 ∷ n % 256 ∷ []
+bytes32 n = to_be_bytes w32 n
 
 -- the number in the first two bytes, and in the first four; bytes that are missing count as 0
 unfoldable pub number16 : List ℕ → ℕ
-number16 bs = slice_index bs 0 * 256 + slice_index bs 1
+number16 bs = from_be_bytes w16 bs
 
 unfoldable pub number32 : List ℕ → ℕ
-number32 bs = slice_index bs 0 * 16777216 + slice_index bs 1 * 65536 + slice_index bs 2 * 256 + slice_index bs 3
+number32 bs = from_be_bytes w32 bs
 
 -- the n bytes from i on
 abbrev pub bytes_at : ℕ → ℕ → List ℕ → List ℕ

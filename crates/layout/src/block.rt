@@ -49,19 +49,19 @@ impl From<Tag> for u16 {
     }
 }
 
-/// There is no such place: a directory block has seven entries, and an indirect block 126 addresses.
+/// Past the last entry of a directory block, which has seven, or the last address of an indirect block, which has 126.
 #[derive(Clone, Copy, PartialEq, Eq, Debug)]
-pub struct NoSuchPlace;
+pub struct PastLast;
 
-impl fmt::Display for NoSuchPlace {
-    ghost output = { λ _. Some (codes "there is no such place in the block") };
+impl fmt::Display for PastLast {
+    ghost output = { λ _. Some (codes "past the last entry or address of the block") };
 
     fn fmt<W: fmt::Write>(&self, f: &mut fmt::Formatter<W>) -> fmt::Result {
-        f.write_str("there is no such place in the block")
+        f.write_str("past the last entry or address of the block")
     }
 }
 
-impl Error for NoSuchPlace {}
+impl Error for PastLast {}
 
 /// A block with this tag and owner, and nothing but zeros in its body.
 pub fn new_block(tag: Tag, owner: u32) -> [u8; BLOCK_LEN]
@@ -73,39 +73,39 @@ pub fn new_block(tag: Tag, owner: u32) -> [u8; BLOCK_LEN]
     bytes
 }
 
-// Each writer tests its own limit: a line in each, and the limits and what is written differ.
+// Each writer tests its own limit, in one line: a helper would have to lend the bytes on, and each caller to say how they come back.
 
 /// Writes the k-th entry of a directory block. From 7 on there is none, and nothing changes.
-pub fn write_entry(bytes: &mut [u8; BLOCK_LEN], k: usize, entry: &Entry) -> Result<(), NoSuchPlace>
+pub fn write_entry(bytes: &mut [u8; BLOCK_LEN], k: usize, entry: &Entry) -> Result<(), PastLast>
     ensures done { is_ok result ≡ nat_lt k 7 }
     ensures after { bytes.new ≡ (if is_ok result then patched (72 * k) (entry_bytes (shown entry.now)) bytes.old else bytes.old) }
 {
     if k >= ENTRY_COUNT {
-        return Err(NoSuchPlace);
+        return Err(PastLast);
     }
     entry.write_to(&mut bytes[ENTRY_LEN * k..ENTRY_LEN * k + ENTRY_LEN]);
     Ok(())
 }
 
 /// Makes the k-th place of a directory block empty. From 7 on there is none, and nothing changes.
-pub fn clear_entry(bytes: &mut [u8; BLOCK_LEN], k: usize) -> Result<(), NoSuchPlace>
+pub fn clear_entry(bytes: &mut [u8; BLOCK_LEN], k: usize) -> Result<(), PastLast>
     ensures done { is_ok result ≡ nat_lt k 7 }
     ensures after { bytes.new ≡ (if is_ok result then patched (72 * k) (entry_bytes empty_entry) bytes.old else bytes.old) }
 {
     if k >= ENTRY_COUNT {
-        return Err(NoSuchPlace);
+        return Err(PastLast);
     }
     bytes[ENTRY_LEN * k..ENTRY_LEN * k + ENTRY_LEN].fill(0);
     Ok(())
 }
 
 /// Writes the j-th address of an indirect block. From 126 on there is none, and nothing changes.
-pub fn write_address(bytes: &mut [u8; BLOCK_LEN], j: usize, address: u32) -> Result<(), NoSuchPlace>
+pub fn write_address(bytes: &mut [u8; BLOCK_LEN], j: usize, address: u32) -> Result<(), PastLast>
     ensures done { is_ok result ≡ nat_lt j 126 }
     ensures after { bytes.new ≡ (if is_ok result then patched (4 * j) (bytes32 address) bytes.old else bytes.old) }
 {
     if j >= ADDRESS_COUNT {
-        return Err(NoSuchPlace);
+        return Err(PastLast);
     }
     put(bytes, 4 * j, address);
     Ok(())
@@ -167,7 +167,8 @@ impl<'a> BlockView<'a> {
         nth_number(&bytes[..BODY_LEN], j)
     }
 
-    /// Whether the block is a super, whatever its numbers are. The tag is compared as a number: one is asked for, and a block may hold any.
+    /// Whether the block is a super, whatever its numbers are. The tag is compared as a number: one is asked for, and a block may
+    /// hold any.
     pub fn is_legal_super(&self) -> bool
         ensures { result ≡ legal_super self.now.bytes.now }
     {

@@ -2,7 +2,7 @@
 ghost use Rattle.std.specs.Prelude.{◌≡◌, ◌↔◌, ◌++◌, length, drop, IsTrue, ◌==◌, Some, codes};
 ghost use Rattle.std.specs.Fmt.{decimal};
 ghost use Rattle.layout.specs.Numbers.{bytes_at, fit};
-ghost use Rattle.layout.specs.Entries.{mode_number, ReadsMode, shown, entry_bytes, until_zero, name_of, mode_of, reserved_of, qid_of, version_of, size_of, direct_of, indirect_of, legal_address, legal_addresses, legal_size, legal_name_field, legal_entry};
+ghost use Rattle.layout.specs.Entries.{mode_number, mode_text, ReadsMode, shown, entry_bytes, until_zero, name_of, mode_of, reserved_of, qid_of, version_of, size_of, direct_of, indirect_of, legal_address, legal_addresses, legal_size, legal_name_field, legal_entry};
 
 use crate::block::{ADDRESS_COUNT, BODY_LEN};
 use crate::numbers::{get, is_all_zero, nth_number, put, put_all};
@@ -45,6 +45,17 @@ const INDIRECT_AT: usize = 68;
 pub enum Mode {
     File = 0x8000,
     Directory = 0xC000,
+}
+
+impl fmt::Display for Mode {
+    ghost output = { λ mode. Some (mode_text mode) };
+
+    fn fmt<W: fmt::Write>(&self, f: &mut fmt::Formatter<W>) -> fmt::Result {
+        f.write_str(match self {
+            Mode::File => "file",
+            Mode::Directory => "directory",
+        })
+    }
 }
 
 /// The number that stands for the mode in an entry.

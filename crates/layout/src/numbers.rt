@@ -28,7 +28,8 @@ pub(crate) trait Number: Copy {
     ghost long: { (n : Self) → length (bytes_of n) ≡ SIZE };
 }
 
-// Two impls alike, since `from_be_bytes` and `to_be_bytes` are methods of each type and of no trait.
+// Two impls alike: std has `from_be_bytes` and `to_be_bytes` on each type and in no trait. Those of `num_traits` take arrays, so that each
+// would have to be made of a slice here.
 impl Number for u16 {
     ghost SIZE = { 2 };
 

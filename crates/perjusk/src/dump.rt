@@ -85,11 +85,9 @@ fn file_block(j: usize) -> [u8; BLOCK_LEN]
     requires { j < 9 }
 {
     let mut bytes = new_block(Tag::File, FILE_QID);
-    for (i, byte) in bytes.iter_mut().take(BODY_LEN).enumerate() {
-        let at = BODY_LEN * j + i;
-        if at < TABLE_LEN {
-            *byte = table_level(at);
-        }
+    let levels = (BODY_LEN * j..TABLE_LEN).map(table_level);
+    for (byte, level) in bytes.iter_mut().take(BODY_LEN).zip(levels) {
+        *byte = level;
     }
     bytes
 }

@@ -68,14 +68,11 @@ fn show_directory<D: Device>(
 /// Prints what an entry says.
 fn show_entry(rt: &impl Print, entry: EntryView<'_>) -> io::Result<()> {
     let name = str::from_utf8(entry.name()).unwrap_or("of no text");
-    let kind = match Mode::try_from(entry.mode()) {
-        Ok(Mode::Directory) => "directory",
-        _ => "file",
-    };
+    let mode = Mode::try_from(entry.mode()).unwrap_or(Mode::File);
     let qid = entry.qid();
     let version = entry.version();
     let size = entry.size();
-    println!(rt; "{kind} {name}: qid {qid}, version {version}, {size} bytes")
+    println!(rt; "{mode} {name}: qid {qid}, version {version}, {size} bytes")
 }
 
 /// Prints a line for each block of a file, as the pointers lead to it.

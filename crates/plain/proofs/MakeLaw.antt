@@ -2,7 +2,7 @@
 use Rattle.std.proofs.Common.{◌≡◌, ℕ, zero, suc, ◌+◌, ◌%◌, ◌<◌, ◌≤◌, Bool, true, false, cond, eqb, ltb, List, [], ◌∷◌, ◌++◌, length, get_or, Some, None, Ok, Err, Option, Result, sym, refl, ap, ◌∙◌, subst, ⊎_elim, arith}
 use Rattle.std.specs.Str.{bytes_eq}
 use Rattle.std.proofs.lemmas.List.{length-append, get_or_past}
-use Rattle.std.proofs.lemmas.Bool.{cases_lt, cases_Bool, lt-ltb, le-ltb, ltb-false, eqb-false}
+use Rattle.std.proofs.lemmas.Bool.{false≢true, cases_lt, cases_Bool, lt-ltb, le-ltb, ltb-false, eqb-false}
 use Rattle.plain.specs.Names.{is_name}
 use Rattle.plain.specs.Paths.{path_of, front, final}
 use Rattle.plain.specs.Trees.{Dir, free, file, end, leaf, dir, Place, flat, deep, at, find, first_free, size, is_free, has_name, name_at, named, used, frees, append, walk, Tree, Plain, root_place, slash}
@@ -26,7 +26,7 @@ pub record MadeAt (is_dir : Bool) (path : List ℕ) (t t' : Tree) : Type 0 where
   pub head : Dir
   pub places : Plain
   pub leads : walk ns (root_place t) ≡ deep name head tt places
-  pub absent : named n places ≡ 0
+  absent : named n places ≡ 0
   pub room : used places ≡ 42 → ⊥
   pub is : t' ≡ inside ns (make_in (new_node is_dir n t.next_qid)) (t.next_qid + 1) t
 
@@ -35,15 +35,15 @@ accepted_make is_dir path t t' ok = go (path_of path) refl ok
   where
     place : (n : List ℕ) (ns : List (List ℕ)) → path_of path ≡ Some (n ∷ ns) → (p : Place (Unit {0})) → walk (front n ns) (root_place t) ≡ p →
         make_at is_dir (front n ns) (final n ns) t p ≡ Ok t' → MadeAt is_dir path t t'
-    place n ns e (flat l) at_p ok = let z : ◌≡◌ {A = ℕ} 0 1 = cc in absurd (omega arith)
+    place n ns e (flat l) at_p ok = absurd (false≢true cc)
     place n ns e (deep m d tt c) at_p ok = by (ltb 0 (named (final n ns) c)) refl (eqb (used c) 42) refl (eqb t.next_qid 4294967295) ok
       where
         by : (b₁ : Bool) → ltb 0 (named (final n ns) c) ≡ b₁ → (b₂ : Bool) → eqb (used c) 42 ≡ b₂ → (b₃ : Bool) →
             ◌≡◌ {A = Result Tree ℕ} (cond b₁ (Err 16) (cond b₂ (Err 18) (cond b₃ (Err 20) (Ok (inside (front n ns) (make_in (new_node is_dir (final n ns) t.next_qid)) (t.next_qid + 1) t))))) (Ok t') →
             MadeAt is_dir path t t'
-        by true g₁ b₂ g₂ b₃ ok = let z : ◌≡◌ {A = ℕ} 0 1 = cc in absurd (omega arith)
-        by false g₁ true g₂ b₃ ok = let z : ◌≡◌ {A = ℕ} 0 1 = cc in absurd (omega arith)
-        by false g₁ false g₂ true ok = let z : ◌≡◌ {A = ℕ} 0 1 = cc in absurd (omega arith)
+        by true g₁ b₂ g₂ b₃ ok = absurd (false≢true cc)
+        by false g₁ true g₂ b₃ ok = absurd (false≢true cc)
+        by false g₁ false g₂ true ok = absurd (false≢true cc)
         by false g₁ false g₂ false ok =
             record {
               ns = front n ns;
@@ -59,8 +59,8 @@ accepted_make is_dir path t t' ok = go (path_of path) refl ok
             }
 
     go : (o : Option (List (List ℕ))) → path_of path ≡ o → make_on is_dir o t ≡ Ok t' → MadeAt is_dir path t t'
-    go None e ok = let z : ◌≡◌ {A = ℕ} 0 1 = cc in absurd (omega arith)
-    go (Some []) e ok = let z : ◌≡◌ {A = ℕ} 0 1 = cc in absurd (omega arith)
+    go None e ok = absurd (false≢true cc)
+    go (Some []) e ok = absurd (false≢true cc)
     go (Some (n ∷ ns)) e ok = place n ns e (walk (front n ns) (root_place t)) refl ok
 
 -- empty places have no name
@@ -77,7 +77,7 @@ module _ (c : Plain) where
       (λ (h : size c ≤ first_free c). subst (λ b. P (cond b c (append c (frees 7)))) (sym (le-ltb (first_free c) (size c) h)) (no' h))
       (cases_lt (first_free c) (size c))
 
-  pub roomy_found : (x : List ℕ) → at (roomy c) (find x (roomy c)) ≡ at c (find x c)
+  roomy_found : (x : List ℕ) → at (roomy c) (find x (roomy c)) ≡ at c (find x c)
   roomy_found x =
       by_room (λ k. at k (find x k) ≡ at c (find x c)) (λ h. refl)
       (λ h.
@@ -86,7 +86,7 @@ module _ (c : Plain) where
       ∙ index_more (has_name x) (flat free) (row c) (row (frees 7)) (frees_named x 7)
       ∙ sym (found x c))
 
-  pub roomy_named : (x : List ℕ) → named x (roomy c) ≡ named x c
+  roomy_named : (x : List ℕ) → named x (roomy c) ≡ named x c
   roomy_named x =
       by_room (λ k. named x k ≡ named x c) (λ h. refl)
       (λ h.
@@ -94,7 +94,7 @@ module _ (c : Plain) where
       ∙ ap (count_by (has_name x)) (row_append c (frees 7))
       ∙ omega (arith, sum_by-append (λ p. cond (has_name x p) 1 0) (row c) (row (frees 7)), frees_named x 7, row_named x c))
 
-  pub roomy_free : first_free (roomy c) < size (roomy c)
+  roomy_free : first_free (roomy c) < size (roomy c)
   roomy_free =
       by_room (λ k. first_free k < size k) (λ h. h)
       (λ h.
@@ -103,7 +103,7 @@ module _ (c : Plain) where
       omega (arith, a, row_free (append c (frees 7)), row_size (append c (frees 7)), ap length r, ap (index is_free_place) r, length-append (row c) (row (frees 7))))
 
   -- what is in the lowest empty place
-  pub roomy_empty : at (roomy c) (first_free (roomy c)) ≡ flat free
+  roomy_empty : at (roomy c) (first_free (roomy c)) ≡ flat free
   roomy_empty =
       let k = roomy c in
       let h : index is_free_place (row k) < length (row k) = rw (← row_free k, ← row_size k) roomy_free in

@@ -4,9 +4,9 @@ use Rattle.std.specs.Option.{option_map}
 use Rattle.std.specs.List.{list_all, onto_first, slice_split}
 use Rattle.std.proofs.lemmas.List.Splits.{length-slice_split}
 use Rattle.std.proofs.lemmas.List.{length-append, drop_at}
-use Rattle.std.proofs.lemmas.Bool.{and_parts, and_left, and_right, ne_eqb, eqb-true, le-leb, leb-true}
+use Rattle.std.proofs.lemmas.Bool.{false≢true, and_parts, and_left, and_right, ne_eqb, eqb-true, le-leb, leb-true}
 use Rattle.plain.specs.Names.{is_name, name_byte}
-use Rattle.plain.specs.Paths.{onto, pieces, names_in, at_most_eight, is_root, path_of, names_text, path_text}
+use Rattle.plain.specs.Paths.{pieces, names_in, at_most_eight, is_root, path_of, names_text, path_text}
 
 -- the bytes before the first slash
 abbrev first_piece : List ℕ → List ℕ
@@ -22,24 +22,13 @@ abbrev later : List ℕ → List (List ℕ)
 later [] = []
 later (b ∷ bs) = pieces bs
 
--- the pieces are the parts of a split at the slashes
-pieces_split : (bs : List ℕ) → pieces bs ≡ slice_split (λ b. eqb b 47) bs
-pieces_split [] = refl
-pieces_split (b ∷ bs) =
-    let parts = slice_split (λ x. eqb x 47) bs in
-    ap (λ ps. cond (eqb b 47) ([] ∷ ps) (onto b ps)) (pieces_split bs) ∙ ap (λ ps. cond (eqb b 47) ([] ∷ parts) ps) (onto_is b parts)
-  where
-    onto_is : (b : ℕ) (ps : List (List ℕ)) → onto b ps ≡ onto_first b ps
-    onto_is b [] = refl
-    onto_is b (p ∷ ps) = refl
-
 -- whether the parts of a text are the names of a path
 pub split_names : (bs : List ℕ) →
     is_some (at_most_eight (names_in (47 ∷ bs))) ≡ (leb (length (slice_split (λ b. eqb b 47) bs)) 8 && list_all is_name (slice_split (λ b. eqb b 47) bs))
 split_names bs =
     let parts = slice_split (λ b. eqb b 47) bs in
     let more : 1 ≤ length parts = omega (arith, length-slice_split (λ b. eqb b 47) bs) in
-    ap (λ ps. is_some (at_most_eight (cond (list_all is_name ps) (Some ps) None))) (pieces_split bs) ∙ by parts (list_all is_name parts) more
+    by parts (list_all is_name parts) more
   where
     by : (ps : List (List ℕ)) (t : Bool) → 1 ≤ length ps → is_some (at_most_eight (cond t (Some ps) None)) ≡ (leb (length ps) 8 && t)
     by ps true h = rw (le-leb 1 (length ps) h) (some (leb (length ps) 8))
@@ -53,9 +42,9 @@ pieces_are : (bs : List ℕ) → pieces bs ≡ first_piece bs ∷ later (from_sl
 pieces_are [] = refl
 pieces_are (b ∷ bs) = by (pieces_are bs) (eqb b 47)
   where
-    by : pieces bs ≡ first_piece bs ∷ later (from_slash bs) → (t : Bool) → cond t ([] ∷ pieces bs) (onto b (pieces bs)) ≡ cond t [] (b ∷ first_piece bs) ∷ later (drop (length (cond t [] (b ∷ first_piece bs))) (b ∷ bs))
+    by : pieces bs ≡ first_piece bs ∷ later (from_slash bs) → (t : Bool) → cond t ([] ∷ pieces bs) (onto_first b (pieces bs)) ≡ cond t [] (b ∷ first_piece bs) ∷ later (drop (length (cond t [] (b ∷ first_piece bs))) (b ∷ bs))
     by h true = refl
-    by h false = ap (onto b) h
+    by h false = ap (onto_first b) h
 
 slash_next : (bs : List ℕ) → (from_slash bs ≡ []) ⊎ ((cs : List ℕ) × (from_slash bs ≡ 47 ∷ cs))
 slash_next [] = inl refl
@@ -102,7 +91,7 @@ names_text_lem [] = inl refl
 names_text_lem (n ∷ ns) = inr (n ++ names_text ns, refl)
 
 -- the names that a text of names has are those
-pub text_names : (ns : List (List ℕ)) → list_all is_name ns ≡ true → names_in (names_text ns) ≡ Some ns
+text_names : (ns : List (List ℕ)) → list_all is_name ns ≡ true → names_in (names_text ns) ≡ Some ns
 text_names [] h = refl
 text_names (n ∷ ns) h =
     let p = and_parts (is_name n) (list_all is_name ns) h in
@@ -119,12 +108,12 @@ pieces_text : (bs : List ℕ) → names_text (pieces bs) ≡ 47 ∷ bs
 pieces_text [] = refl
 pieces_text (b ∷ bs) = by (pieces_text bs) (eqb b 47) refl
   where
-    by : names_text (pieces bs) ≡ 47 ∷ bs → (t : Bool) → eqb b 47 ≡ t → names_text (cond t ([] ∷ pieces bs) (onto b (pieces bs))) ≡ 47 ∷ (b ∷ bs)
+    by : names_text (pieces bs) ≡ 47 ∷ bs → (t : Bool) → eqb b 47 ≡ t → names_text (cond t ([] ∷ pieces bs) (onto_first b (pieces bs))) ≡ 47 ∷ (b ∷ bs)
     by h true e = ap (λ l. 47 ∷ l) (h ∙ ap (λ x. x ∷ bs) (sym (eqb-true b 47 e)))
     by h false e =
         let g : 47 ∷ (first_piece bs ++ names_text (later (from_slash bs))) ≡ 47 ∷ bs = sym (ap names_text (pieces_are bs)) ∙ h in
         let d : first_piece bs ++ names_text (later (from_slash bs)) ≡ bs = cc in
-        ap (λ ps. names_text (onto b ps)) (pieces_are bs) ∙ ap (λ l. 47 ∷ (b ∷ l)) d
+        ap (λ ps. names_text (onto_first b ps)) (pieces_are bs) ∙ ap (λ l. 47 ∷ (b ∷ l)) d
 
 names_short : (ns : List (List ℕ)) → list_all is_name ns ≡ true → length (names_text ns) ≤ 28 * length ns
 names_short [] h = omega arith
@@ -150,8 +139,8 @@ path_short text h = by (is_root text) refl h
         go true true e h =
             let n = and_parts (leb 1 (length (pieces bs))) (leb (length (pieces bs)) 8) (few _ h) in
             omega (arith, leb-true _ _ n.1, names_short (pieces bs) e, ap length (pieces_text bs))
-        go true false e h = let z : ◌≡◌ {A = ℕ} 0 1 = cc in absurd (omega arith)
-        go false t e h = let z : ◌≡◌ {A = ℕ} 0 1 = cc in absurd (omega arith)
+        go true false e h = absurd (false≢true cc)
+        go false t e h = absurd (false≢true cc)
 
     by : (t : Bool) → is_root text ≡ t → is_some (cond t (Some []) (at_most_eight (names_in text))) ≡ true → length text ≤ 224
     by true e h = omega (arith, eqb-true (length text) 1 (and_parts (eqb (length text) 1) _ e).0)
@@ -183,7 +172,7 @@ path_is text ns is = by text (is_root text) refl is
     some ps false e = (cc, cc)
 
     names : (text : List ℕ) → at_most_eight (names_in text) ≡ Some ns → IsPath text ns
-    names [] e = let z : ◌≡◌ {A = ℕ} 0 1 = cc in absurd (omega arith)
+    names [] e = absurd (false≢true cc)
     names (b ∷ bs) e = go (eqb b 47) refl (list_all is_name (pieces bs)) refl e
       where
         go : (s : Bool) → eqb b 47 ≡ s → (t : Bool) → list_all is_name (pieces bs) ≡ t → at_most_eight (cond (s && t) (Some (pieces bs)) None) ≡ Some ns → IsPath (b ∷ bs) ns
@@ -192,8 +181,8 @@ path_is text ns is = by text (is_root text) refl is
             let n = and_parts (leb 1 (length (pieces bs))) (leb (length (pieces bs)) 8) p.0 in
             let text : path_text (pieces bs) ≡ b ∷ bs = ap path_text (pieces_are bs) ∙ sym (ap names_text (pieces_are bs)) ∙ pieces_text bs ∙ ap (λ x. x ∷ bs) (sym (eqb-true b 47 f)) in
             subst (IsPath (b ∷ bs)) p.1 (record { legal = g; few = leb-true _ _ n.1; shown = text })
-        go true f false g e = let z : ◌≡◌ {A = ℕ} 0 1 = cc in absurd (omega arith)
-        go false f t g e = let z : ◌≡◌ {A = ℕ} 0 1 = cc in absurd (omega arith)
+        go true f false g e = absurd (false≢true cc)
+        go false f t g e = absurd (false≢true cc)
 
     by : (text : List ℕ) (t : Bool) → is_root text ≡ t → cond t (Some []) (at_most_eight (names_in text)) ≡ Some ns → IsPath text ns
     by text true e is = let n : [] ≡ ns = cc in subst (IsPath text) n (record { legal = refl; few = omega arith; shown = sym (root text e) })

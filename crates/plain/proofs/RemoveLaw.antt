@@ -1,7 +1,7 @@
 -- An accepted removal.
 use Rattle.std.proofs.Common.{◌≡◌, ℕ, zero, suc, ◌+◌, ◌%◌, ◌<◌, Bool, true, false, cond, eqb, List, [], ◌∷◌, ◌++◌, Some, None, Ok, Err, Option, Result, sym, refl, ap, ◌∙◌, subst, arith}
 use Rattle.std.specs.Str.{bytes_eq}
-use Rattle.std.proofs.lemmas.Bool.{eqb-true}
+use Rattle.std.proofs.lemmas.Bool.{false≢true, eqb-true}
 use Rattle.plain.specs.Names.{is_name}
 use Rattle.plain.specs.Paths.{path_of, front, final}
 use Rattle.plain.specs.Trees.{free, file, end, leaf, dir, Place, flat, deep, at, find, size, has_name, named, used, walk, Tree, Plain, root_place, slash}
@@ -39,17 +39,17 @@ accepted_remove path t t' ok = go (path_of path) refl ok
 
     place : (n : List ℕ) (ns : List (List ℕ)) → path_of path ≡ Some (n ∷ ns) → (p : Place (Unit {0})) → walk (n ∷ ns) (root_place t) ≡ p →
         remove_at (front n ns) (final n ns) t p ≡ Ok t' → RemovedAt path t t'
-    place n ns e (flat free) at_p ok = let z : ◌≡◌ {A = ℕ} 0 1 = cc in absurd (omega arith)
+    place n ns e (flat free) at_p ok = absurd (false≢true cc)
     place n ns e (flat (file m f w)) at_p ok = made n ns e (flat (file m f w)) at_p tt ok
     place n ns e (deep m d w c) at_p ok = by (eqb (used c) 0) refl ok
       where
         by : (b : Bool) → eqb (used c) 0 ≡ b → ◌≡◌ {A = Result Tree ℕ} (cond b (Ok (inside (front n ns) (remove_in (final n ns)) t.next_qid t)) (Err 19)) (Ok t') → RemovedAt path t t'
         by true g ok = made n ns e (deep m d w c) at_p (eqb-true (used c) 0 g) ok
-        by false g ok = let z : ◌≡◌ {A = ℕ} 0 1 = cc in absurd (omega arith)
+        by false g ok = absurd (false≢true cc)
 
     go : (o : Option (List (List ℕ))) → path_of path ≡ o → remove_on o t ≡ Ok t' → RemovedAt path t t'
-    go None e ok = let z : ◌≡◌ {A = ℕ} 0 1 = cc in absurd (omega arith)
-    go (Some []) e ok = let z : ◌≡◌ {A = ℕ} 0 1 = cc in absurd (omega arith)
+    go None e ok = absurd (false≢true cc)
+    go (Some []) e ok = absurd (false≢true cc)
     go (Some (n ∷ ns)) e ok = place n ns e (walk (n ∷ ns) (root_place t)) refl ok
 
 -- below a node that may be removed there is nothing
@@ -75,8 +75,8 @@ unlike x n (deep m d w c) e ne = ap (bytes_eq x) (sym (same_name n m e)) ∙ oth
 
 sight_not : (p : Place (Unit {0})) → Bare p → sight p ≡ nothing → ⊥
 sight_not (flat free) b e = b
-sight_not (flat (file n f w)) b e = let z : ◌≡◌ {A = ℕ} 0 1 = cc in omega arith
-sight_not (deep n d w c) b e = let z : ◌≡◌ {A = ℕ} 0 1 = cc in omega arith
+sight_not (flat (file n f w)) b e = false≢true cc
+sight_not (deep n d w c) b e = false≢true cc
 
 module _ (path : List ℕ) (t t' : Tree) (w : RemovedAt path t t') (tidy : Tidy t) (legal : is_name w.n ≡ true) where
   abbrev h : Home w.ns w.n t w.node

@@ -2,7 +2,7 @@
 use Rattle.std.proofs.Common.{◌≡◌, ℕ, zero, suc, ◌+◌, ◌%◌, ◌<◌, true, cond, leb, List, [], ◌∷◌, length, set, sym, refl, ap, ◌∙◌, subst, arith}
 use Rattle.std.specs.List.{list_all}
 use Rattle.std.proofs.lemmas.List.{length-set}
-use Rattle.std.proofs.lemmas.Bool.{and_parts, leb-true}
+use Rattle.std.proofs.lemmas.Bool.{false≢true, and_parts, leb-true}
 use Rattle.plain.specs.Names.{name_byte, is_name}
 use Rattle.plain.specs.Trees.{Dir, free, file, end, leaf, dir, Place, flat, deep, put, at, set_at, size, find, has_name, named, walk, modify, Plain}
 use Rattle.plain.specs.Laws.{TidyDir, TidyLeaf, TidyBelow}
@@ -85,7 +85,7 @@ tidy_modify f (n ∷ ns) m d c m₁ d₁ c₁ is t b t₁ b₁ = go (at c (find 
         let s = modify_step n ns f c m₂ d₂ tt e at_n in
         let h = ih m₂ d₂ e is p.1 p.2 t₁ b₁ in
         let q = deep m₂ d₂ tt (modify ns f e) in
-        let g = found_within n c (λ z. let y : deep m₂ d₂ tt e ≡ flat free = sym at_n ∙ z in let w : ◌≡◌ {A = ℕ} 0 1 = cc in omega arith) in (
+        let g = found_within n c (λ z. let y : deep m₂ d₂ tt e ≡ flat free = sym at_n ∙ z in false≢true cc) in (
           subst TidyDir (sym s) (tidy_same c (find n c) q g.0 (λ x. ap (has_name x) (sym at_n)) t),
           subst TidyBelow (sym s) (tidy_set c (find n c) q b (p.0, h.0, h.1)),
         )

@@ -3,7 +3,7 @@ use Rattle.std.proofs.Common.{◌≡◌, ℕ, suc, ◌<◌, ◌≤◌, Bool, tru
 use Rattle.std.specs.Str.{bytes_eq}
 use Rattle.std.proofs.lemmas.Slice.Eq.{bytes_eq-Decides}
 use Rattle.std.proofs.lemmas.List.{map-set, set-get_or, get_or-map, get_or_past}
-use Rattle.std.proofs.lemmas.Bool.{cases_lt, cases_Bool}
+use Rattle.std.proofs.lemmas.Bool.{false≢true, cases_lt, cases_Bool}
 use Rattle.plain.specs.Trees.{Dir, Leaf, free, Places, end, leaf, dir, Place, flat, deep, size, at, set_at, name_at, has_name, find, child, walk, modify}
 use Rattle.plain.specs.Laws.{names_at, a_dir, sight}
 use Rattle.plain.proofs.Indices.{index, index_passes, index_miss, index_hit}
@@ -17,7 +17,7 @@ pub self_name : (n : List ℕ) → bytes_eq n n ≡ true
 self_name n = (bytes_eq-Decides n n).1 refl
 
 pub apart_name : (x n : List ℕ) → bytes_eq x n ≡ false → x ≡ n → ⊥
-apart_name x n t e = let y : true ≡ false = sym (self_name n) ∙ ap (λ z. bytes_eq z n) (sym e) ∙ t in let z : ◌≡◌ {A = ℕ} 0 1 = cc in omega arith
+apart_name x n t e = let y : true ≡ false = sym (self_name n) ∙ ap (λ z. bytes_eq z n) (sym e) ∙ t in false≢true cc
 
 pub other_name : (x n : List ℕ) → (x ≡ n → ⊥) → bytes_eq x n ≡ false
 other_name x n ne = ⊎_elim (λ e. absurd (ne (same_name x n e))) (λ e. e) (cases_Bool (bytes_eq x n))
@@ -75,8 +75,8 @@ module _ {W : Type 0} where
   walk_free (n ∷ ns) = walk_free ns
 
   pub walk_flat : (ns : List (List ℕ)) (l : Leaf W) (m : List ℕ) (d : Dir) (w : W) (c : Places W) → walk ns (flat l) ≡ deep m d w c → ⊥
-  walk_flat [] l m d w c e = let z : ◌≡◌ {A = ℕ} 0 1 = cc in omega arith
-  walk_flat (n ∷ ns) l m d w c e = let g = walk_free ns in let z : ◌≡◌ {A = ℕ} 0 1 = cc in omega arith
+  walk_flat [] l m d w c e = false≢true cc
+  walk_flat (n ∷ ns) l m d w c e = let g = walk_free ns in false≢true cc
 
   -- f is done to the places c₁ of the directory that the names ns lead to
   module _ (f : Places W → Places W) (m₁ : List ℕ) (d₁ : Dir) (w₁ : W) (c₁ : Places W) where
@@ -93,7 +93,7 @@ module _ {W : Type 0} where
         go (deep m₂ d₂ w₂ e) at_n is ih =
             let p = deep m₂ d₂ w₂ (modify ns f e) in
             let s = modify_step n ns f c m₂ d₂ w₂ e at_n in
-            let g = found_within n c (λ z. let y : deep m₂ d₂ w₂ e ≡ flat free = sym at_n ∙ z in let x : ◌≡◌ {A = ℕ} 0 1 = cc in omega arith) in
+            let g = found_within n c (λ z. let y : deep m₂ d₂ w₂ e ≡ flat free = sym at_n ∙ z in false≢true cc) in
             let same : has_name n p ≡ true = ap (has_name n) (sym at_n) ∙ g.1 in
             ap (λ k. walk (ns ++ r) (at k (find n k))) s ∙ ap (walk (ns ++ r)) (found_new n c (find n c) p g.0 same (omega arith)) ∙ ih m₂ d₂ w₂ e is
 
@@ -120,12 +120,12 @@ walk_aside f m₁ d₁ c₁ (n ∷ ns) q m d c is apart = go (at c (find n c)) r
     go (flat l) at_n is q apart ih = absurd (walk_flat ns l m₁ d₁ tt c₁ is)
     go (deep m₂ d₂ tt e) at_n is [] apart ih =
         let s = modify_step n ns f c m₂ d₂ tt e at_n in
-        let g = found_within n c (λ z. let y : deep m₂ d₂ tt e ≡ flat free = sym at_n ∙ z in let x : ◌≡◌ {A = ℕ} 0 1 = cc in omega arith) in
+        let g = found_within n c (λ z. let y : deep m₂ d₂ tt e ≡ flat free = sym at_n ∙ z in false≢true cc) in
         ap (λ k. sight (deep m d tt k)) s ∙ ap (a_dir d) (names_same c (find n c) (deep m₂ d₂ tt (modify ns f e)) g.0 (ap name_at (sym at_n)))
     go (deep m₂ d₂ tt e) at_n is (x ∷ q) apart ih =
         let p = deep m₂ d₂ tt (modify ns f e) in
         let s = modify_step n ns f c m₂ d₂ tt e at_n in
-        let g = found_within n c (λ z. let y : deep m₂ d₂ tt e ≡ flat free = sym at_n ∙ z in let w : ◌≡◌ {A = ℕ} 0 1 = cc in omega arith) in
+        let g = found_within n c (λ z. let y : deep m₂ d₂ tt e ≡ flat free = sym at_n ∙ z in false≢true cc) in
         let name : n ≡ m₂ = same_name n m₂ (ap (has_name n) (sym at_n) ∙ g.1) in
         ⊎_elim
         (λ (t : bytes_eq x n ≡ true).
@@ -146,7 +146,7 @@ walk_aside f m₁ d₁ c₁ (n ∷ ns) q m d c is apart = go (at c (find n c)) r
 -- names go on from others, or they do not
 pub goes_on : (ns q : List (List ℕ)) → ((r : List (List ℕ)) × (q ≡ ns ++ r)) ⊎ ((r : List (List ℕ)) → q ≡ ns ++ r → ⊥)
 goes_on [] q = inl (q, refl)
-goes_on (n ∷ ns) [] = inr (λ r e. let z : ◌≡◌ {A = ℕ} 0 1 = cc in omega arith)
+goes_on (n ∷ ns) [] = inr (λ r e. false≢true cc)
 goes_on (n ∷ ns) (x ∷ q) =
     ⊎_elim
     (λ (t : bytes_eq x n ≡ true).

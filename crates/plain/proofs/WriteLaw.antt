@@ -2,7 +2,7 @@
 use Rattle.std.proofs.Common.{◌≡◌, ℕ, ◌+◌, ◌<◌, ◌≤◌, Bool, true, false, cond, List, [], ◌∷◌, ◌++◌, length, take, drop, Some, None, Ok, Err, Option, Result, sym, refl, ap, ◌∙◌, subst, arith}
 use Rattle.std.specs.Str.{bytes_eq}
 use Rattle.std.proofs.lemmas.List.{length-append, length-take, length-drop, length-take-le, take_at, drop_at, drop-drop}
-use Rattle.std.proofs.lemmas.Bool.{and_parts, leb-true}
+use Rattle.std.proofs.lemmas.Bool.{false≢true, and_parts, leb-true}
 use Rattle.plain.specs.Names.{is_name}
 use Rattle.plain.specs.Paths.{path_of, front, final}
 use Rattle.plain.specs.Trees.{File, free, file, Place, flat, deep, at, find, size, has_name, name_at, walk, Tree, Plain, root_place, slash}
@@ -28,12 +28,12 @@ accepted_write path off input t t' ok = go (path_of path) refl ok
   where
     place : (n : List ℕ) (ns : List (List ℕ)) → path_of path ≡ Some (n ∷ ns) → (p : Place (Unit {0})) → walk (n ∷ ns) (root_place t) ≡ p →
         write_at (front n ns) (final n ns) off input t p ≡ Ok t' → Written path off input t t'
-    place n ns e (flat free) at_p ok = let z : ◌≡◌ {A = ℕ} 0 1 = cc in absurd (omega arith)
-    place n ns e (deep m d w c) at_p ok = let z : ◌≡◌ {A = ℕ} 0 1 = cc in absurd (omega arith)
+    place n ns e (flat free) at_p ok = absurd (false≢true cc)
+    place n ns e (deep m d w c) at_p ok = absurd (false≢true cc)
     place n ns e (flat (file m f tt)) at_p ok = by (writable off input f) refl ok
       where
         by : (b : Bool) → writable off input f ≡ b → ◌≡◌ {A = Result Tree ℕ} (cond b (Ok (inside (front n ns) (put_file (final n ns) (written off input f)) t.next_qid t)) (Err 17)) (Ok t') → Written path off input t t'
-        by false g ok = let z : ◌≡◌ {A = ℕ} 0 1 = cc in absurd (omega arith)
+        by false g ok = absurd (false≢true cc)
         by true g ok =
             let l = front_final n ns in
             record {
@@ -48,8 +48,8 @@ accepted_write path off input t t' ok = go (path_of path) refl ok
             }
 
     go : (o : Option (List (List ℕ))) → path_of path ≡ o → write_on off input o t ≡ Ok t' → Written path off input t t'
-    go None e ok = let z : ◌≡◌ {A = ℕ} 0 1 = cc in absurd (omega arith)
-    go (Some []) e ok = let z : ◌≡◌ {A = ℕ} 0 1 = cc in absurd (omega arith)
+    go None e ok = absurd (false≢true cc)
+    go (Some []) e ok = absurd (false≢true cc)
     go (Some (n ∷ ns)) e ok = place n ns e (walk (n ∷ ns) (root_place t)) refl ok
 
 -- the bytes of a file after a write
@@ -95,7 +95,7 @@ module _ (path : List ℕ) (off : ℕ) (input : List ℕ) (t t' : Tree) (w : Wri
   new = flat (file w.n after tt)
 
   not_free : node ≡ flat free → ⊥
-  not_free e = let z : ◌≡◌ {A = ℕ} 0 1 = cc in omega arith
+  not_free e = false≢true cc
 
   abbrev h : Home w.ns w.n t node
   h = home w.ns w.n t node w.is_at not_free

@@ -1,17 +1,11 @@
 -- Paths: "/" alone, or 1 to 8 names, each after a "/", which is byte 47.
 use Rattle.std.specs.Prelude.{ℕ, Bool, cond, ◌&&◌, List, [], ◌∷◌, ◌++◌, length, Some, None, Option, ◌==◌, nat_eq, nat_le}
-use Rattle.std.specs.List.{list_all}
+use Rattle.std.specs.List.{list_all, slice_split}
 use Rattle.plain.specs.Names.{is_name}
-
--- a byte more at the front of the first piece
-abbrev pub onto : ℕ → List (List ℕ) → List (List ℕ)
-onto b [] = (b ∷ []) ∷ []
-onto b (p ∷ ps) = (b ∷ p) ∷ ps
 
 -- the pieces between the slashes of a text
 abbrev pub pieces : List ℕ → List (List ℕ)
-pieces [] = [] ∷ []
-pieces (b ∷ bs) = cond (b == 47) ([] ∷ pieces bs) (onto b (pieces bs))
+pieces bs = slice_split (λ b. b == 47) bs
 
 -- the names in a text in which each follows a "/"
 abbrev pub names_in : List ℕ → Option (List (List ℕ))

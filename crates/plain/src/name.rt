@@ -1,8 +1,10 @@
 //! Names of files and directories.
-ghost use Rattle.std.specs.Prelude.{◌≡◌, true, false, MatchOption};
+ghost use Rattle.std.specs.Prelude.{◌≡◌, true, false, Some, codes, MatchResult};
 ghost use Rattle.plain.specs.Names.{is_name, name_byte};
 
 use crate::text::Text;
+use std::error::Error;
+use std::fmt;
 use std::marker::Model;
 
 /// The most bytes of a name.
@@ -27,17 +29,35 @@ impl Model for Name {
     ghost inverse = { λ v. record { text = v } };
 }
 
-impl Name {
-    /// The bytes as a name, if they are one.
-    pub fn new(bytes: &[u8]) -> Option<Name>
-        ensures { MatchOption result (is_name bytes.now ≡ false) (λ n. n ≡ bytes.now) }
-    {
+/// The bytes are no name.
+#[derive(Clone, Copy, PartialEq, Eq, Debug)]
+pub struct NotAName;
+
+impl fmt::Display for NotAName {
+    ghost output = { λ _. Some (codes "the bytes are no name") };
+
+    fn fmt<W: fmt::Write>(&self, f: &mut fmt::Formatter<W>) -> fmt::Result {
+        f.write_str("the bytes are no name")
+    }
+}
+
+impl Error for NotAName {}
+
+/// The bytes as a name, if they are one.
+impl TryFrom<&[u8]> for Name {
+    type Error = NotAName;
+
+    ghost try_from_gives = { λ bytes read. MatchResult read (λ name. name ≡ bytes.now) (λ _. is_name bytes.now ≡ false) };
+
+    fn try_from(bytes: &[u8]) -> Result<Name, NotAName> {
         match Text::new(bytes) {
-            Some(text) if is_name(text.as_bytes()) => Some(Name { text }),
-            _ => None,
+            Some(text) if is_name(text.as_bytes()) => Ok(Name { text }),
+            _ => Err(NotAName),
         }
     }
+}
 
+impl Name {
     /// The bytes of the name, which are always a name's.
     pub fn as_bytes(&self) -> &[u8]
         ensures bytes { result.now ≡ self.now }

@@ -33,17 +33,21 @@ impl Model for Path {
     ghost inverse = { λ v. record { text = v } };
 }
 
-impl Path {
-    /// The path that a text is.
-    pub fn parse(text: &[u8]) -> Result<Path, TreeFault>
-        ensures { MatchResult result (λ p. p ≡ text.now) (λ e. (shown e ≡ row 11) × (path_of text.now ≡ None)) }
-    {
+/// The path that a text is.
+impl TryFrom<&[u8]> for Path {
+    type Error = TreeFault;
+
+    ghost try_from_gives = { λ text read. MatchResult read (λ path. path ≡ text.now) (λ e. (shown e ≡ row 11) × (path_of text.now ≡ None)) };
+
+    fn try_from(text: &[u8]) -> Result<Path, TreeFault> {
         match Text::new(text) {
             Some(text) if is_path(text.as_bytes()) => Ok(Path { text }),
             _ => Err(TreeFault::MalformedPath),
         }
     }
+}
 
+impl Path {
     /// The text of the path, which is always one.
     pub fn as_bytes(&self) -> &[u8]
         ensures text { result.now ≡ self.now }

@@ -151,18 +151,18 @@ qid_left : (is_dir : Bool) (path : List ℕ) (t u : Tree) → make is_dir path t
 qid_left is_dir path t u ok last = go (path_of path) ok
   where
     by : (v : Result Tree ℕ) (present full given : Bool) → given ≡ true → cond present (Err 16) (cond full (Err 18) (cond given (Err 20) v)) ≡ Ok u → ⊥
-    by v true full given e ok = let z : ◌≡◌ {A = ℕ} 0 1 = cc in omega arith
-    by v false true given e ok = let z : ◌≡◌ {A = ℕ} 0 1 = cc in omega arith
-    by v false false true e ok = let z : ◌≡◌ {A = ℕ} 0 1 = cc in omega arith
+    by v true full given e ok = false≢true cc
+    by v false true given e ok = false≢true cc
+    by v false false true e ok = false≢true cc
     by v false false false e ok = false≢true e
 
     place : (ns : List (List ℕ)) (n : List ℕ) (p : Place (Unit {0})) → make_at is_dir ns n t p ≡ Ok u → ⊥
-    place ns n (flat l) ok = let z : ◌≡◌ {A = ℕ} 0 1 = cc in omega arith
+    place ns n (flat l) ok = false≢true cc
     place ns n (deep m d w c) ok = by _ (ltb 0 (named n c)) (eqb (used c) 42) (eqb t.next_qid 4294967295) (eq-eqb _ _ last) ok
 
     go : (o : Option (List (List ℕ))) → make_on is_dir o t ≡ Ok u → ⊥
-    go None ok = let z : ◌≡◌ {A = ℕ} 0 1 = cc in omega arith
-    go (Some []) ok = let z : ◌≡◌ {A = ℕ} 0 1 = cc in omega arith
+    go None ok = false≢true cc
+    go (Some []) ok = false≢true cc
     go (Some (n ∷ ns)) ok = place (front n ns) (final n ns) (walk (front n ns) (root_place t)) ok
 
 formed_make : (is_dir : Bool) (path : List ℕ) (t u : Tree) → WellFormed t → make is_dir path t ≡ Ok u → WellFormed u

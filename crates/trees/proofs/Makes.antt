@@ -4,7 +4,7 @@ use lib.Seq.{take-append-le, drop-append-le}
 use Rattle.std.specs.List.{AllByRecursion}
 use Rattle.std.proofs.ByRecursion.{All-set}
 use Rattle.std.proofs.lemmas.List.{nil_from_length, append-nil, get_or_append_left, get_or-append_right, same_from_push, length-drop}
-use Rattle.std.proofs.lemmas.Bool.{cases_lt, ltb-true, ltb-false}
+use Rattle.std.proofs.lemmas.Bool.{false≢true, cases_lt, ltb-true, ltb-false}
 use Rattle.plain.specs.Paths.{path_of, front, final}
 use Rattle.plain.specs.Trees as plain
 use Rattle.plain.specs.Trees.{Dir, Leaf, free, file, Places, end, leaf, dir, Place, flat, deep, size, at, set_at, first_free, frees, append, walk, slash, Tree}
@@ -188,7 +188,7 @@ module _ (m : BlockMap) (limit : ℕ) (t : StoredTree) (r : Represents m limit t
   -- the directory with its notes
   module _ (k : List ℕ) (d : Dir) (w : Stored) (c : Places Stored) (is : walk names (root_place t) ≡ deep k d w c) where
     found : walk names (root_place t) ≡ flat free → ⊥
-    found e = let z : deep k d w c ≡ flat free = sym is ∙ e in let y : ◌≡◌ {A = ℕ} 0 1 = cc in omega arith
+    found e = let z : deep k d w c ≡ flat free = sym is ∙ e in false≢true cc
 
     here : Sound m (deep k d w c)
     here = subst (Sound m) is (sound_walk m (slash ∷ names) (whole t) (record { fits = r.fits; once = r.once; stand = r.stand }) found)
@@ -269,7 +269,7 @@ module _ (m : BlockMap) (limit : ℕ) (t : StoredTree) (r : Represents m limit t
       (new : List ℕ) → Addable limit t (make_plan t is_dir ns n p).added new → Done m limit t (make_plan t is_dir ns n p) new u
   make_done_at ns n e e' (flat l) is new ok =
       let z : flat (Rattle.trees.specs.Stored.map_leaf (λ w. tt) l) ≡ deep at_it.name at_it.head tt at_it.places = ap erased (sym is) ∙ erased_walk t names ∙ at_it.leads in
-      let y : ◌≡◌ {A = ℕ} 0 1 = cc in absurd (omega arith)
+      absurd (false≢true cc)
   make_done_at ns n e e' (deep k d w c) is new ok =
       subst (λ l. Done m limit t (make_plan t is_dir l n (deep k d w c)) new u) (sym e)
       (subst (λ y. Done m limit t (make_plan t is_dir names y (deep k d w c)) new u) (sym e')

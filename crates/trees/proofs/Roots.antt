@@ -1,5 +1,6 @@
 -- The tree with another place for "/", by what the plain tree sees of that place.
 use Rattle.std.proofs.Common.{◌≡◌, ℕ, List, [], ◌∷◌, ◌++◌, length, Some, None, Option, sym, refl, ap, arith, length-append}
+use Rattle.std.proofs.lemmas.Bool.{false≢true}
 use Rattle.plain.specs.Trees as plain
 use Rattle.plain.specs.Trees.{Dir, Leaf, Places, Place, flat, deep, put, frees, slash, Tree, walk}
 use Rattle.trees.specs.Stored.{Stored, map_places, map_place, StoredTree, root_place, whole, erase}
@@ -10,7 +11,7 @@ abbrev pub erased : {W : Type 0} → Place W → Place (Unit {0})
 erased p = map_place (λ w. tt) p
 
 flat_root : {X : Type 0} (l : Leaf Stored) (v : Tree) → erased (flat l) ≡ plain.root_place v → X
-flat_root l v e = let z : ◌≡◌ {A = ℕ} 0 1 = cc in absurd (omega arith)
+flat_root l v e = absurd (false≢true cc)
 
 pub root_top : (t : StoredTree) (next : ℕ) (q : Place Stored) → (with_root t next q).top ≡ t.top
 root_top t next (flat l) = refl
@@ -37,7 +38,7 @@ root_whole t ns f next v e = go (alter ns f (root_place t)) e
 -- a path with at least one name
 pub on_names_lem : (t : StoredTree) (P : Plan → Type 0) (plan : List ℕ → List (List ℕ) → Plan) (o : Option (List (List ℕ))) (ns : List (List ℕ)) (n : List ℕ) → o ≡ Some (ns ++ n ∷ []) →
     ((x : List ℕ) (xs : List (List ℕ)) → x ∷ xs ≡ ns ++ n ∷ [] → P (plan x xs)) → P (on_path t o plan)
-on_names_lem t P plan None ns n e h = let z : ◌≡◌ {A = ℕ} 0 1 = cc in absurd (omega arith)
+on_names_lem t P plan None ns n e h = absurd (false≢true cc)
 on_names_lem t P plan (Some []) ns n e h = let e' : [] ≡ ns ++ n ∷ [] = cc in absurd (omega (arith, ap length e', length-append ns (n ∷ [])))
 on_names_lem t P plan (Some (x ∷ xs)) ns n e h = h x xs (cc)
 

@@ -1,7 +1,7 @@
 -- The worked example is what the definitions make of it.
 use Rattle.std.proofs.Common.{◌≡◌, ℕ, ◌<◌, Bool, true, false, cond, ◌&&◌, eqb, ltb, List, [], ◌∷◌, length, Ok, refl, subst, arith}
 use Rattle.std.specs.List.{list_all, AllByRecursion}
-use Rattle.std.proofs.lemmas.Bool.{and_parts, ltb-true, eqb-true}
+use Rattle.std.proofs.lemmas.Bool.{false≢true, and_parts, ltb-true, eqb-true}
 use Rattle.layout.specs.Numbers.{bytes16, bytes32, number16, number32, fit}
 use Rattle.layout.specs.Blocks.{legal_pad, block, file_block, indirect_block}
 use Rattle.layout.specs.Entries.{entry_bytes, directory_block, legal_addresses, legal_name_field, legal_entry}
@@ -55,7 +55,7 @@ abbrev is_block : List ℕ → Bool
 is_block b = eqb (length b) 512 && list_all (λ x. ltb x 256) b
 
 holds_bytes : (bs : List (ℕ × List ℕ)) → list_all (λ b. is_block b.1) bs ≡ true → HoldsBytes (holding bs)
-holds_bytes [] h a b e = let z : ◌≡◌ {A = ℕ} 0 1 = cc in absurd (omega arith)
+holds_bytes [] h a b e = absurd (false≢true cc)
 holds_bytes (x ∷ bs) h a b e =
     let p = and_parts (is_block x.1) (list_all (λ y. is_block y.1) bs) h in
     by (eqb a x.0) (and_parts (eqb (length x.1) 512) (list_all (λ y. ltb y 256) x.1) p.0) (holds_bytes bs p.1 a b) e

@@ -1,6 +1,6 @@
 -- Steps of a check that passed: what was met for the first time, and the blocks that were visited.
 use Rattle.std.proofs.Common.{◌≡◌, ℕ, ◌+◌, ◌≤◌, Bool, true, false, cond, eqb, List, [], ◌∷◌, length, Ok, Err, Result, sym, refl, ap, ◌∙◌, subst, arith}
-use Rattle.std.proofs.lemmas.Bool.{or_parts, eqb-true}
+use Rattle.std.proofs.lemmas.Bool.{false≢true, or_parts, eqb-true}
 use Rattle.device.specs.Refusals.{Refusal}
 use Rattle.layout.specs.Blocks.{body_of, block}
 use Rattle.trees.specs.Stored.{Block, count}
@@ -14,11 +14,11 @@ use Rattle.trees.proofs.Reencodes.{Bytes, block_back}
 
 pub then_ok : {X Y : Type 0} (x : Judged X) (f : X → Judged Y) (y : Y) → and_then x f ≡ Ok y → (v : X) × (x ≡ Ok v) × (f v ≡ Ok y)
 then_ok (Ok v) f y h = (v, refl, h)
-then_ok (Err e) f y h = absurd (let z : ◌≡◌ {A = ℕ} 0 1 = cc in omega arith)
+then_ok (Err e) f y h = absurd (false≢true cc)
 
 pub test_ok : {X : Type 0} (t : Bool) (x : Judged X) (a : ℕ) (y : X) → cond t x (fails a) ≡ Ok y → (t ≡ true) × (x ≡ Ok y)
 test_ok true x a y h = (refl, h)
-test_ok false x a y h = absurd (let z : ◌≡◌ {A = ℕ} 0 1 = cc in omega arith)
+test_ok false x a y h = absurd (false≢true cc)
 
 pub ok_same : {X : Type 0} (x y : X) → ◌≡◌ {A = Judged X} (Ok x) (Ok y) → x ≡ y
 ok_same x y h = cc
@@ -64,7 +64,7 @@ pub met_once : (holder a : ℕ) (met met' : List ℕ) → meet holder a met ≡ 
 met_once holder a met met' h = go (is_in a met) refl h
   where
     go : (t : Bool) → is_in a met ≡ t → cond t (fails holder) (Ok (a ∷ met)) ≡ Ok met' → Meets met (λ x. one x a) met'
-    go true new e = absurd (let z : ◌≡◌ {A = ℕ} 0 1 = cc in omega arith)
+    go true new e = absurd (false≢true cc)
     go false new e = subst (Meets met (λ x. one x a)) (ok_same (a ∷ met) met' e) (grown_one (λ x. count x met) eqb a (λ x. eqb-true x a) (not_in a met new))
 
 -- a block that was read and has legal ends
@@ -76,7 +76,7 @@ pub record Visited (m : BlockMap) (tag owner a : ℕ) : Type 0 where
 
 was_read : (r : Result (List ℕ) Refusal) (a : ℕ) (b : List ℕ) → read r a ≡ Ok b → r ≡ Ok b
 was_read (Ok x) a b h = ap Ok (ok_same x b h)
-was_read (Err f) a b h = absurd (let z : ◌≡◌ {A = ℕ} 0 1 = cc in omega arith)
+was_read (Err f) a b h = absurd (false≢true cc)
 
 pub visit_ok : (m : BlockMap) → HoldsBytes m → (tag owner a : ℕ) (b : List ℕ) → visit m tag owner a ≡ Ok b → Visited m tag owner a × (b ≡ bytes_of (m a))
 visit_ok m holds tag owner a b h =

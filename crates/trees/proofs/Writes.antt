@@ -4,7 +4,7 @@ use lib.Seq.{take-append-add, drop-append-add}
 use Rattle.std.specs.List.{AllByRecursion}
 use Rattle.std.proofs.ByRecursion.{All-append}
 use Rattle.std.proofs.lemmas.List.{nil_from_length, append-nil, length-append, length-take, length-drop, take-append-le, drop-append-le, drop_all, get_or_append_left, get_or-append_right, get_or-take, get_or-drop}
-use Rattle.std.proofs.lemmas.Bool.{cases_lt, and_parts, leb-true, lt-ltb, le-ltb}
+use Rattle.std.proofs.lemmas.Bool.{false≢true, cases_lt, and_parts, leb-true, lt-ltb, le-ltb}
 use Rattle.plain.specs.Paths.{path_of}
 use Rattle.plain.specs.Trees as plain
 use Rattle.plain.specs.Trees.{File, Leaf, free, file, Places, Place, flat, deep, size, at, set_at, find, has_name, walk, slash, Tree}
@@ -254,7 +254,7 @@ module _ (m : BlockMap) (limit : ℕ) (t : StoredTree) (r : Represents m limit t
   node = flat (file at_it.label at_it.before tt)
 
   not_free : node ≡ flat free → ⊥
-  not_free e = let z : ◌≡◌ {A = ℕ} 0 1 = cc in omega arith
+  not_free e = false≢true cc
 
   in_dir : Home at_it.ns at_it.n (erase t) node
   in_dir = home at_it.ns at_it.n (erase t) node at_it.is_at not_free
@@ -277,7 +277,7 @@ module _ (m : BlockMap) (limit : ℕ) (t : StoredTree) (r : Represents m limit t
   -- the file with its note
   module _ (k : List ℕ) (f : File) (w : Stored) (is : walk names (root_place t) ≡ flat (file k f w)) (new : List ℕ) (ok : Addable limit t (new_indirect t off input f w + (blocks_needed t off input f - length w.blocks)) new) where
     found : walk names (root_place t) ≡ flat free → ⊥
-    found e = let z : flat (file k f w) ≡ flat free = sym is ∙ e in let y : ◌≡◌ {A = ℕ} 0 1 = cc in omega arith
+    found e = let z : flat (file k f w) ≡ flat free = sym is ∙ e in false≢true cc
 
     here : Sound m (flat (file k f w))
     here = subst (Sound m) is (sound_walk m (slash ∷ names) (whole t) (record { fits = r.fits; once = r.once; stand = r.stand }) found)
@@ -337,7 +337,7 @@ module _ (m : BlockMap) (limit : ℕ) (t : StoredTree) (r : Represents m limit t
   write_on_lem (flat (file k f w)) is new ok = write_at_lem k f w is new ok
   write_on_lem (deep k d w c) is new ok =
       let z : deep k d tt (Rattle.trees.specs.Stored.map_places (λ w. tt) c) ≡ node = ap erased (sym is) ∙ erased_walk t names ∙ at_it.is_at in
-      let y : ◌≡◌ {A = ℕ} 0 1 = cc in absurd (omega arith)
+      absurd (false≢true cc)
 
   pub write_done : (new : List ℕ) → Addable limit t (plan_of t (write path off input)).added new → Done m limit t (plan_of t (write path off input)) new u
   write_done =
