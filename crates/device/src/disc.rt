@@ -42,9 +42,10 @@ impl Disc {
         requires { block < disc_size (vec_items self.now.storage) }
         ensures { result ≡ state_of (disc_cell self.now.kind (vec_items self.now.storage) block) }
     {
-        match (CellState::from(self.storage[block as usize * STRIDE]), self.kind) {
+        let state = CellState::from(self.storage[block as usize * STRIDE]);
+        match (state, self.kind) {
             (CellState::Blank, Kind::Rewritable) => CellState::Spoiled,
-            (state, _) => state,
+            _ => state,
         }
     }
 }

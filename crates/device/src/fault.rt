@@ -15,8 +15,8 @@ pub struct Place {
     pub block: u32,
 }
 
-/// Why a device refused a read or a write. The place of the first two is the device asked and the block given, that of the others is where the
-/// block lies.
+/// Why a device refused a read or a write. The place of the first two is the device asked and the block given; that of the others
+/// is where the block lies.
 #[derive(Clone, Copy, PartialEq, Eq, Debug)]
 pub enum DeviceFault {
     /// The buffer is not 512 bytes long.
@@ -71,8 +71,8 @@ impl fmt::Display for DeviceFault {
 
 impl Error for DeviceFault {}
 
-// Every device passes its label and its size. Tried: a provided method of `Device`, and a function over any `D: Device`; the check does not
-// cover an impl whose methods call either.
+// Every device passes its label and its size. Tried: a provided method of `Device`, and a function over any `D: Device`; the check
+// does not cover an impl whose methods call either.
 
 /// The refusals that do not look at the block: a buffer of `len` bytes that is no block, and a block past the end.
 pub fn admit(label: u8, size: u32, block: u32, len: usize) -> Result<(), DeviceFault>

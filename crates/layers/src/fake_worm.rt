@@ -106,6 +106,9 @@ impl<A: Device> Device for FakeWorm<A> {
         }
     }
 
+    // `read` and `write` begin alike. A method for that would be no plainer: its contract would have to say what it finds below, which is
+    // proved in each of them now.
+
     /// Reads the bit, then the block. The device below does not change.
     fn read(&mut self, block: u32, buf: &mut [u8]) -> Result<(), DeviceFault>
         ensures cells { Reads (meaning_of A.Device self.old) block buf.old result buf.new (meaning_of A.Device self.new) }

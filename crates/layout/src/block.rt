@@ -73,7 +73,8 @@ pub fn new_block(tag: Tag, owner: u32) -> [u8; BLOCK_LEN]
     bytes
 }
 
-// Each writer tests its own limit, in one line: a helper would have to lend the bytes on, and each caller to say how they come back.
+// Each writer tests its own limit, in one line: a helper would have to lend the bytes on, and each caller to say how they come
+// back.
 
 /// Writes the k-th entry of a directory block. From 7 on there is none, and nothing changes.
 pub fn write_entry(bytes: &mut [u8; BLOCK_LEN], k: usize, entry: &Entry) -> Result<(), PastLast>
@@ -149,6 +150,8 @@ impl<'a> BlockView<'a> {
     {
         self.pad() == 0
     }
+
+    // `let bytes` reads the reference first: the check does not cover a slice of `self.bytes`.
 
     /// The k-th entry of a directory block, and from 7 on an empty place.
     pub fn entry(&self, k: usize) -> EntryView<'a>

@@ -67,7 +67,7 @@ impl From<Mode> for u16 {
     }
 }
 
-/// A number that stands for no mode.
+/// The number that was read, which stands for no mode.
 #[derive(Clone, Copy, PartialEq, Eq, Debug)]
 pub struct NoSuchMode(pub u16);
 
@@ -109,7 +109,7 @@ pub struct Entry {
 }
 
 impl Entry {
-    /// Writes the entry into its place.
+    /// Writes the entry into its place, a slice that is lent of the block.
     pub(crate) fn write_to(&self, place: &mut [u8])
         requires { length place.old ≡ 72 }
         ensures { place.new ≡ entry_bytes (shown self.now) }
@@ -127,6 +127,7 @@ impl Entry {
 #[derive(Clone, Copy, PartialEq, Eq, Debug)]
 pub struct EntryView<'a> {
     bytes: &'a [u8; ENTRY_LEN],
+    ghost whole: { length bytes.now ≡ 72 },
 }
 
 impl<'a> EntryView<'a> {
@@ -248,7 +249,8 @@ impl<'a> EntryView<'a> {
     }
 }
 
-/// Whether an address is in range, if it is used, and else 0. The size says whether it is used; nothing keeps that with the address.
+/// Whether an address is in range, if it is used, and else 0. The size says whether it is used; nothing keeps that with the
+/// address.
 fn address_is_legal(limit: u32, used: bool, address: u32) -> bool
     ensures { result ≡ legal_address limit used address }
 {

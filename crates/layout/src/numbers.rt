@@ -28,8 +28,8 @@ pub(crate) trait Number: Copy {
     ghost long: { (n : Self) → length (bytes_of n) ≡ SIZE };
 }
 
-// Two impls alike: std has `from_be_bytes` and `to_be_bytes` on each type and in no trait. Those of `num_traits` take arrays, so that each
-// would have to be made of a slice here.
+// Two impls alike: std has `from_be_bytes` and `to_be_bytes` on each type and in no trait. Those of `num_traits` take arrays, which
+// would have to be made of slices here.
 impl Number for u16 {
     ghost SIZE = { 2 };
 
@@ -106,9 +106,7 @@ pub(crate) fn nth_number(row: &[u8], i: usize) -> u32
     ensures { result ≡ number32 (bytes_at (4 * i) 4 row.now) }
 {
     let (numbers, _) = row.as_chunks::<4>();
-    numbers
-        .get(i)
-        .map_or(0, |number| u32::from_be_bytes(*number))
+    numbers.get(i).map_or(0, |number| u32::from_bytes(number))
 }
 
 /// Whether every byte is zero.

@@ -2,6 +2,7 @@
 //! and a super.
 ghost use Rattle.std.specs.Prelude.{◌<◌};
 
+use crate::report;
 use crate::seam::{TABLE_LEN, table_level};
 use device::fault::{BLOCK_LEN, DeviceFault};
 use device::interface::Device;
@@ -41,17 +42,21 @@ const NEXT_QID: u32 = 3;
 
 /// Writes the dump onto the pile, the super last, and prints a line for each part.
 pub(crate) fn lay_out<D: Device>(rt: &impl Print, pile: &mut D) -> io::Result<()> {
-    report(rt, "blocks 5 to 13, the file blend", write_data(pile))?;
+    report(
+        rt,
+        "dump by hand, blocks 5 to 13, the file blend",
+        write_data(pile),
+    )?;
     let indirect = pile.write(INDIRECT, &indirect_block());
-    report(rt, "block 4, its indirect block", indirect)?;
+    report(rt, "dump by hand, block 4, its indirect block", indirect)?;
     let mut bytes = new_block(Tag::Directory, ROOT_QID);
     write_entry(&mut bytes, 0, &file_entry()).unwrap();
     let directory = pile.write(DIRECTORY, &bytes);
-    report(rt, "block 3, the directory block", directory)?;
+    report(rt, "dump by hand, block 3, the directory block", directory)?;
     bytes = root_block();
     write_entry(&mut bytes, 0, &root_entry()).unwrap();
     let root = pile.write(ROOT, &bytes);
-    report(rt, "block 2, the root block", root)?;
+    report(rt, "dump by hand, block 2, the root block", root)?;
     let first = Super {
         number: 0,
         date: DATE,
@@ -61,15 +66,7 @@ pub(crate) fn lay_out<D: Device>(rt: &impl Print, pile: &mut D) -> io::Result<()
         next_qid: NEXT_QID,
     };
     let done = pile.write(SUPER, &first.to_block());
-    report(rt, "block 1, the super", done)
-}
-
-/// Prints what came of writing a part of the dump.
-fn report(rt: &impl Print, what: &str, answer: Result<(), DeviceFault>) -> io::Result<()> {
-    match answer {
-        Ok(()) => println!(rt; "dump by hand, {what}: done"),
-        Err(fault) => println!(rt; "dump by hand, {what}: {fault}"),
-    }
+    report(rt, "dump by hand, block 1, the super", done)
 }
 
 /// Writes the blocks of the file.

@@ -6,10 +6,10 @@ mod pile;
 mod reading;
 mod seam;
 
-use device::fault::BLOCK_LEN;
+use device::fault::{BLOCK_LEN, DeviceFault};
 use device::interface::Device;
 use seam::{Part, TABLE_BLOCKS};
-use std::io;
+use std::{fmt, io};
 
 fn main(rt: HostRuntime) -> io::Result<()> {
     println!(rt; "Perjusk keeps the blend table of one seam on a pile of discs.")?;
@@ -32,12 +32,22 @@ fn store<D: Device>(rt: &impl Print, pile: &mut D) -> io::Result<()> {
     for block in 0..TABLE_BLOCKS {
         let part = Part::of_block(block);
         let at = TABLE + block;
-        match pile.write(at, &part.levels()) {
-            Ok(()) => println!(rt; "write block {at}, {part}: done")?,
-            Err(fault) => println!(rt; "write block {at}, {part}: {fault}")?,
-        }
+        let written = pile.write(at, &part.levels());
+        report(rt, format_args!("write block {at}, {part}"), written)?;
     }
     Ok(())
+}
+
+/// Prints what came of a write.
+pub(crate) fn report<T: fmt::Display + Drop>(
+    rt: &impl Print,
+    what: T,
+    answer: Result<(), DeviceFault>,
+) -> io::Result<()> {
+    match answer {
+        Ok(()) => println!(rt; "{what}: done"),
+        Err(fault) => println!(rt; "{what}: {fault}"),
+    }
 }
 
 /// Asks for what the pile refuses.
@@ -60,6 +70,7 @@ fn show_refusals<D: Device>(rt: &impl Print, pile: &mut D) -> io::Result<()> {
 
 /// Reads the table through the damaged pile and compares it with what was written.
 fn read_back<D: Device>(rt: &impl Print, pile: &mut D) -> io::Result<()> {
+    // Counted here, since each block is also printed.
     let mut same = 0u32;
     for block in 0..TABLE_BLOCKS {
         let part = Part::of_block(block);

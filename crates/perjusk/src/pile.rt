@@ -22,14 +22,11 @@ const SPOILED_BLOCKS: [u32; 3] = [2, 17, 18];
 
 /// Sets up the pile, and prints what it is made of.
 pub(crate) fn build(heap: Global, rt: &impl Print) -> io::Result<Pile> {
-    let one = Disc::new(1, Kind::Rewritable, storage(heap, 24, &SPOILED_BLOCKS)?);
-    show(rt, "a disc with blocks 2, 17 and 18 spoiled", &one)?;
-    let two = Disc::new(2, Kind::Rewritable, storage(heap, 16, &[])?);
-    show(rt, "a disc", &two)?;
-    let three = Disc::new(3, Kind::Rewritable, storage(heap, 28, &[])?);
-    show(rt, "a disc", &three)?;
-    let four = Disc::new(4, Kind::Rewritable, storage(heap, 12, &[])?);
-    show(rt, "a disc", &four)?;
+    let spoiled = "a disc with blocks 2, 17 and 18 spoiled";
+    let one = disc(heap, rt, 1, 24, &SPOILED_BLOCKS, spoiled)?;
+    let two = disc(heap, rt, 2, 16, &[], "a disc")?;
+    let three = disc(heap, rt, 3, 28, &[], "a disc")?;
+    let four = disc(heap, rt, 4, 12, &[], "a disc")?;
     let first = Concatenation::new(11, one, two);
     show(
         rt,
@@ -63,6 +60,20 @@ pub(crate) fn take_apart(rt: &impl Print, pile: Pile) -> io::Result<()> {
     println!(rt;
         "pile taken apart: of the table's {TABLE_BLOCKS} blocks disc 1 holds {on_one} and disc 3 holds {on_three}"
     )
+}
+
+/// A rewritable disc of zero blocks, which is printed.
+fn disc(
+    heap: Global,
+    rt: &impl Print,
+    label: u8,
+    blocks: u32,
+    spoiled: &[u32],
+    what: &str,
+) -> io::Result<Disc> {
+    let disc = Disc::new(label, Kind::Rewritable, storage(heap, blocks, spoiled)?);
+    show(rt, what, &disc)?;
+    Ok(disc)
 }
 
 /// Storage for a rewritable disc of zero blocks, all held but those in the list.

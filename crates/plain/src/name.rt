@@ -5,7 +5,6 @@ ghost use Rattle.plain.specs.Names.{is_name, name_byte};
 use crate::text::Text;
 use std::error::Error;
 use std::fmt;
-use std::marker::Model;
 
 /// The most bytes of a name.
 pub const NAME_MOST: usize = 27;
@@ -14,19 +13,7 @@ pub const NAME_MOST: usize = 27;
 #[derive(Clone, Copy, PartialEq, Eq, Debug)]
 pub struct Name {
     text: Text<NAME_MOST>,
-}
-
-impl Model for Name {
-    ghost use Rattle.std.specs.Prelude.{◌≡◌, ℕ, true, List};
-    ghost use Rattle.plain.specs.Names.{is_name};
-
-    ghost Value = { List ℕ };
-
-    ghost view = { λ n. n.text };
-
-    ghost invariant = { λ n. is_name n.text ≡ true };
-
-    ghost inverse = { λ v. record { text = v } };
+    ghost legal: { is_name text ≡ true },
 }
 
 /// The bytes are no name.
@@ -47,7 +34,7 @@ impl Error for NotAName {}
 impl TryFrom<&[u8]> for Name {
     type Error = NotAName;
 
-    ghost try_from_gives = { λ bytes read. MatchResult read (λ name. name ≡ bytes.now) (λ _. is_name bytes.now ≡ false) };
+    ghost try_from_gives = { λ bytes read. MatchResult read (λ name. name.text ≡ bytes.now) (λ _. is_name bytes.now ≡ false) };
 
     fn try_from(bytes: &[u8]) -> Result<Name, NotAName> {
         match Text::new(bytes) {
@@ -60,7 +47,7 @@ impl TryFrom<&[u8]> for Name {
 impl Name {
     /// The bytes of the name, which are always a name's.
     pub fn as_bytes(&self) -> &[u8]
-        ensures bytes { result.now ≡ self.now }
+        ensures bytes { result.now ≡ self.now.text }
         ensures legal { is_name result.now ≡ true }
     {
         self.text.as_bytes()

@@ -6,7 +6,6 @@ ghost use Rattle.plain.specs.Refusals.{shown, row};
 use crate::fault::TreeFault;
 use crate::name::{NAME_MOST, is_name};
 use crate::text::Text;
-use std::marker::Model;
 
 /// The most names of a path.
 const NAMES_MOST: usize = 8;
@@ -18,26 +17,14 @@ const PATH_MOST: usize = NAMES_MOST * (NAME_MOST + 1);
 #[derive(Clone, Copy, PartialEq, Eq, Debug)]
 pub struct Path {
     text: Text<PATH_MOST>,
-}
-
-impl Model for Path {
-    ghost use Rattle.std.specs.Prelude.{◌≡◌, ℕ, true, List, is_some};
-    ghost use Rattle.plain.specs.Paths.{path_of};
-
-    ghost Value = { List ℕ };
-
-    ghost view = { λ p. p.text };
-
-    ghost invariant = { λ p. is_some (path_of p.text) ≡ true };
-
-    ghost inverse = { λ v. record { text = v } };
+    ghost legal: { is_some (path_of text) ≡ true },
 }
 
 /// The path that a text is.
 impl TryFrom<&[u8]> for Path {
     type Error = TreeFault;
 
-    ghost try_from_gives = { λ text read. MatchResult read (λ path. path ≡ text.now) (λ e. (shown e ≡ row 11) × (path_of text.now ≡ None)) };
+    ghost try_from_gives = { λ text read. MatchResult read (λ path. path.text ≡ text.now) (λ e. (shown e ≡ row 11) × (path_of text.now ≡ None)) };
 
     fn try_from(text: &[u8]) -> Result<Path, TreeFault> {
         match Text::new(text) {
@@ -50,7 +37,7 @@ impl TryFrom<&[u8]> for Path {
 impl Path {
     /// The text of the path, which is always one.
     pub fn as_bytes(&self) -> &[u8]
-        ensures text { result.now ≡ self.now }
+        ensures text { result.now ≡ self.now.text }
         ensures legal { is_some (path_of result.now) ≡ true }
     {
         self.text.as_bytes()
