@@ -16,7 +16,7 @@ pub struct Place {
 }
 
 /// Why a device refused a read or a write. The place of the first two is the device asked and the block given; that of the others
-/// is where the block lies.
+/// is where the block lies. A struct of the place and of an enum without it would be no plainer: each match would name both.
 #[derive(Clone, Copy, PartialEq, Eq, Debug)]
 pub enum DeviceFault {
     /// The buffer is not 512 bytes long.
@@ -32,7 +32,7 @@ pub enum DeviceFault {
 }
 
 impl DeviceFault {
-    /// The refusal's number, as it is printed and handed back. Code goes by the case.
+    /// The refusal's number in docs/REFUSALS.md, as it is printed and handed back. Code goes by the case.
     pub fn number(self) -> u8
         ensures { result ≡ (shown self).number }
     {

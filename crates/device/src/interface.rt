@@ -34,6 +34,7 @@ pub trait Device {
     /// One cell for each block, and where each block lies.
     ghost meaning: { Self → Meaning };
 
+    // Each device answers this, and `place` if the place is its own, in a line of its own.
     fn label(&self) -> u8
         ensures { result ≡ (meaning self.now).label };
 

@@ -66,6 +66,8 @@ impl<A: Device, B: Device> Device for Concatenation<A, B> {
         }
     }
 
+    // `read`, `write` and `place` split alike: the part that has the block is of one type or of the other.
+
     /// Neither part changes.
     fn read(&mut self, block: u32, buf: &mut [u8]) -> Result<(), DeviceFault>
         ensures cells { Reads (meaning_of A.Device B.Device self.old) block buf.old result buf.new (meaning_of A.Device B.Device self.new) }

@@ -106,8 +106,8 @@ impl<A: Device> Device for FakeWorm<A> {
         }
     }
 
-    // `read` and `write` begin alike. A method for that would be no plainer: its contract would have to say what it finds below, which is
-    // proved in each of them now.
+    // `read` and `write` begin alike. A method for that would be no plainer: its contract would have to say what it finds below, which
+    // is proved in each of them now.
 
     /// Reads the bit, then the block. The device below does not change.
     fn read(&mut self, block: u32, buf: &mut [u8]) -> Result<(), DeviceFault>

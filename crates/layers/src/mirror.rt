@@ -8,8 +8,8 @@ use device::cell_state::CellState;
 use device::fault::{DeviceFault, Place, admit};
 use device::interface::{Device, Kind};
 
-// One type with `Concatenation` would be no plainer: they share the fields, `new`, `into_parts`, `label` and `kind`, and each clause would
-// name a marker of the rule.
+// One type with `Concatenation` would be no plainer: they share the fields, `new`, `into_parts`, `label` and `kind`, and each clause
+// would name a marker of the rule.
 
 /// Two devices that hold the same blocks, so that a block lasts while one of its sides does. The two fit if they are of one
 /// kind; else there are no blocks.

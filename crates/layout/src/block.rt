@@ -162,7 +162,7 @@ impl<'a> BlockView<'a> {
         EntryView::new(entries.get(k).unwrap_or(&EMPTY_PLACE))
     }
 
-    /// The j-th address of an indirect block, and 0 from 126 on.
+    /// The j-th address of an indirect block, and 0 from 126 on; 0 stands for no address, as in the format.
     pub fn address(&self, j: usize) -> u32
         ensures { result ≡ address_of j self.now.bytes.now }
     {

@@ -109,7 +109,8 @@ pub struct Entry {
 }
 
 impl Entry {
-    /// Writes the entry into its place, a slice that is lent of the block.
+    /// Writes the entry into its place, the slice that is lent of the block. An array of it would come by `first_chunk_mut` and an
+    /// `unwrap`.
     pub(crate) fn write_to(&self, place: &mut [u8])
         requires { length place.old ≡ 72 }
         ensures { place.new ≡ entry_bytes (shown self.now) }
@@ -127,6 +128,7 @@ impl Entry {
 #[derive(Clone, Copy, PartialEq, Eq, Debug)]
 pub struct EntryView<'a> {
     bytes: &'a [u8; ENTRY_LEN],
+    // So that the length is known behind a reference too.
     ghost whole: { length bytes.now ≡ 72 },
 }
 
@@ -136,6 +138,8 @@ impl<'a> EntryView<'a> {
     {
         EntryView { bytes }
     }
+
+    // One `get` for each field, since callers ask by name.
 
     /// The mode's number, and no `Mode`: it is 0 in an empty place, and a place may hold any bytes.
     pub fn mode(&self) -> u16
@@ -162,7 +166,7 @@ impl<'a> EntryView<'a> {
         get(self.bytes, SIZE_AT)
     }
 
-    /// The i-th direct address, and 0 from 6 on.
+    /// The i-th direct address, and 0 from 6 on; 0 stands for no address, as in the format.
     pub fn direct(&self, i: usize) -> u32
         ensures { result ≡ direct_of i self.now.bytes.now }
     {
@@ -170,6 +174,7 @@ impl<'a> EntryView<'a> {
         nth_number(&bytes[DIRECT_AT..INDIRECT_AT], i)
     }
 
+    /// The address of the indirect block; 0 stands for none, as in the format.
     pub fn indirect(&self) -> u32
         ensures { result ≡ indirect_of self.now.bytes.now }
     {
@@ -191,7 +196,7 @@ impl<'a> EntryView<'a> {
         self.name() == name
     }
 
-    /// Whether the place is empty, by its mode.
+    /// Whether the place is empty, by its mode: that of an empty place is 0, the number of no mode.
     pub fn is_empty(&self) -> bool
         ensures { result ≡ (mode_of self.now.bytes.now == 0) }
     {

@@ -25,7 +25,7 @@ pub struct Super {
 }
 
 impl Super {
-    /// The block that says it. An array is no type of ours: a conversion would read `<[u8; BLOCK_LEN]>::from(..)`.
+    /// The block that says it. As a conversion, a call would read `<[u8; BLOCK_LEN]>::from(..)`.
     pub fn to_block(&self) -> [u8; BLOCK_LEN]
         ensures { result ≡ super_block self.now }
     {

@@ -112,7 +112,7 @@ fn file_entry() -> Entry {
     }
 }
 
-/// The entry of "/", with one block.
+/// The entry of "/", with one block, written out as the rest of the dump is.
 fn root_entry() -> Entry {
     Entry {
         name: name_field(b"/"),

@@ -25,7 +25,8 @@ fn main(rt: HostRuntime) -> io::Result<()> {
 /// Where the table lies on the pile.
 pub(crate) const TABLE: u32 = 16;
 
-// The runtime is a handle, and is passed on beside the pile as it is: a struct of the two would be no plainer.
+// The runtime is a handle, and is passed on beside the pile as it is: a struct of the two would be no plainer. Nor would one of a
+// block's part and its place on the pile, which are worked out together.
 
 /// Writes the table, block by block.
 fn store<D: Device>(rt: &impl Print, pile: &mut D) -> io::Result<()> {

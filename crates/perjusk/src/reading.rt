@@ -10,6 +10,8 @@ use layout::pointer::Pointer;
 use layout::super_block::Super;
 use std::{io, str};
 
+// Each of these reads a block, or says in its own words why it can't and returns: a helper would save no line.
+
 /// Follows the first super to its tree, of "/" and the files in it, and prints a line for each thing found.
 pub(crate) fn show_tree<D: Device>(rt: &impl Print, pile: &mut D) -> io::Result<()> {
     let mut bytes = [0; BLOCK_LEN];

@@ -3,7 +3,8 @@ ghost use Rattle.std.specs.Prelude.{◌≡◌, ◌<◌, length, MatchOption};
 
 use std::marker::Model;
 
-/// At most `N` bytes, in memory of its own: no parser allocates, and a text that borrowed would ask its callers to keep the bytes.
+/// At most `N` bytes, in memory of its own: no parser allocates, and a text that borrowed would ask its callers to keep the
+/// bytes. The library's `ArrayVec` is not `Copy`, as names and paths are, and its `ArrayString` would need a test for UTF-8 first.
 #[derive(Clone, Copy, PartialEq, Eq, Debug)]
 pub struct Text<const N: usize> {
     bytes: [u8; N],
