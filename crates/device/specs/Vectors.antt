@@ -5,7 +5,7 @@ use Rattle.device.specs.declared.interface.Kind.TheVariants.{Rewritable, WriteOn
 use Rattle.device.specs.declared.cell_state.CellState.TheVariants.{Blank, Held, Spoiled}
 use Rattle.device.specs.Refusals.{refused}
 use Rattle.device.specs.Meaning.{blank, held, spoiled, Meaning}
-use Rattle.device.specs.Calls.{read_outcome, write_outcome}
+use Rattle.device.specs.Calls.{state_of, read_outcome, write_outcome}
 use Rattle.device.specs.Storage.{state_byte, state_of_byte, disc_size, cell_from, disc_cell, place_on}
 
 -- 512 nines after a state byte
@@ -28,6 +28,8 @@ pub record Vectors : Type 0 where
   pub zero_rewritable : disc_cell Rewritable (nines 0) 0 ≡ spoiled
   pub two : (k : Kind) → disc_cell k (nines 2) 0 ≡ spoiled
   pub second : (k : Kind) → disc_cell k (nines 2 ++ nines 1) 1 ≡ held (replicate 512 9)
+  -- the state that a byte stands for is that of a write-once disc's cell with that byte
+  pub bytes_read : (byte : ℕ) (bytes : List ℕ) → state_of (cell_from WriteOnce byte bytes) ≡ state_of_byte byte
   -- what a state byte stands for is read back
   pub states_back : (state_of_byte (state_byte Blank) ≡ Blank) × (state_of_byte (state_byte Held) ≡ Held) × (state_of_byte (state_byte Spoiled) ≡ Spoiled)
   pub byte_held : (k : Kind) (bytes : List ℕ) → cell_from k (state_byte Held) bytes ≡ held bytes

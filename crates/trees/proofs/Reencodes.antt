@@ -1,6 +1,7 @@
 -- What is legal in blocks is the encoding of what it reads as.
-use Rattle.std.proofs.Common.{◌≡◌, ℕ, zero, suc, ◌+◌, ◌*◌, ◌/◌, ◌%◌, ◌^◌, ◌<◌, ◌≤◌, Bool, true, ◌&&◌, eqb, ltb, leb, List, [], ◌∷◌, ◌++◌, map, length, get_or, take, drop, replicate, sym, refl, ap, ◌∙◌, subst, ⊎_elim, mul-zero, arith}
+use Rattle.std.proofs.Common.{◌≡◌, ℕ, zero, suc, ◌+◌, ◌*◌, ◌^◌, ◌<◌, ◌≤◌, Bool, true, ◌&&◌, eqb, ltb, leb, List, [], ◌∷◌, ◌++◌, map, length, get_or, take, drop, replicate, sym, refl, ap, ◌∙◌, subst, ⊎_elim, mul-zero, arith}
 use Rattle.std.specs.List.{list_all, range_with_len, flat_map, AllByRecursion}
+use Rattle.std.proofs.lemmas.Nat.{be_bytes_2, be_bytes_4}
 use Rattle.std.proofs.lemmas.List.FromFn.{length-map-range_with_len, get_or-map-range_with_len}
 use Rattle.std.proofs.ByRecursion.{All-take, All-drop}
 use Rattle.std.proofs.lemmas.List.{length-take, length-drop, length-map, take-append-drop, take_all, drop_all, drop-drop, drop-replicate, get_or_past, ext_get_or}
@@ -21,30 +22,19 @@ Bytes bs = AllByRecursion (λ x. x < 256) bs
 abbrev pub Bytes72 : List ℕ → Type 0
 Bytes72 e = (length e ≡ 72) × Bytes e
 
+byte_small : (bs : List ℕ) → Bytes bs → (i : ℕ) → get_or bs i 0 < 256
+byte_small [] h i = omega arith
+byte_small (b ∷ bs) h zero = h.0
+byte_small (b ∷ bs) h (suc i) = byte_small bs h.1 i
+
 -- numbers in two and in four bytes
 bytes16_number16 : (bs : List ℕ) → length bs ≡ 2 → Bytes bs → bytes16 (number16 bs) ≡ bs
 unfolding bytes16 number16
-bytes16_number16 [] e h = absurd (omega arith)
-bytes16_number16 (x ∷ []) e h = absurd (omega arith)
-bytes16_number16 (x ∷ y ∷ []) e h =
-    let high : (x * 256 + y) / 256 % 256 ≡ x = omega arith in
-    let low : (x * 256 + y) % 256 ≡ y = omega arith in
-    cc
-bytes16_number16 (x ∷ y ∷ z ∷ bs) e h = absurd (omega arith)
+bytes16_number16 bs e h = be_bytes_2 bs _ e (byte_small bs h) refl
 
 bytes32_number32 : (bs : List ℕ) → length bs ≡ 4 → Bytes bs → bytes32 (number32 bs) ≡ bs
 unfolding bytes32 number32
-bytes32_number32 [] e h = absurd (omega arith)
-bytes32_number32 (x ∷ []) e h = absurd (omega arith)
-bytes32_number32 (x ∷ y ∷ []) e h = absurd (omega arith)
-bytes32_number32 (x ∷ y ∷ z ∷ []) e h = absurd (omega arith)
-bytes32_number32 (x ∷ y ∷ z ∷ w ∷ []) e h =
-    let first : (x * 16777216 + y * 65536 + z * 256 + w) / 16777216 % 256 ≡ x = omega arith in
-    let second : (x * 16777216 + y * 65536 + z * 256 + w) / 65536 % 256 ≡ y = omega arith in
-    let third : (x * 16777216 + y * 65536 + z * 256 + w) / 256 % 256 ≡ z = omega arith in
-    let fourth : (x * 16777216 + y * 65536 + z * 256 + w) % 256 ≡ w = omega arith in
-    cc
-bytes32_number32 (x ∷ y ∷ z ∷ w ∷ v ∷ bs) e h = absurd (omega arith)
+bytes32_number32 bs e h = be_bytes_4 bs _ e (byte_small bs h) refl
 
 pub number32_small : (bs : List ℕ) → Bytes bs → number32 bs < 2 ^ 32
 unfolding number32
