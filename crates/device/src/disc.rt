@@ -20,6 +20,7 @@ pub struct Disc {
 }
 
 impl Disc {
+    /// A disc whose blocks may be written again and again, or once, as its kind says.
     pub fn new(label: u8, kind: Kind, storage: Vec<u8>) -> Disc
         ensures { result ≡ record { label = label; kind = kind; storage = storage } }
     {
