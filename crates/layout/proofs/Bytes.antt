@@ -1,9 +1,9 @@
 -- Numbers in bytes, and lists that are joined of parts of one length.
-use Rattle.std.proofs.Common.{◌≡◌, ℕ, zero, suc, ◌+◌, ◌*◌, ◌^◌, ◌<◌, ◌≤◌, List, [], ◌∷◌, ◌++◌, length, get_or, take, drop, set, sym, refl, ap, ◌∙◌, ⊎_elim, mul-le-mul_left, mul-zero, mul-suc, arith}
+use Rattle.std.proofs.Common.{◌≡◌, ℕ, zero, suc, ◌+◌, ◌*◌, ◌^◌, ◌<◌, ◌≤◌, List, [], ◌∷◌, ◌++◌, length, get_or, take, drop, set, sym, refl, ap, ◌∙◌, ⊎_elim, add-zero, mul-le-mul_left, mul-zero, mul-suc, arith}
 use Rattle.std.proofs.lemmas.Nat.{from_be_bytes-to_be_bytes_2, from_be_bytes-to_be_bytes_4}
 use lib.Seq.{take-append-add}
 use Rattle.std.specs.List.{flat_map}
-use Rattle.std.proofs.lemmas.List.{length-append, append_assoc, get_or_past, take_at, take_all, drop_all}
+use Rattle.std.proofs.lemmas.List.{length-append, append_assoc, get_or_past, get_or-take, get_or-drop, take_at, take_all, drop_all}
 use Rattle.std.proofs.lemmas.Bool.{cases_lt}
 use Rattle.layout.specs.Numbers.{bytes16, bytes32, number16, number32, bytes_at, patched, fit}
 use Rattle.layout.proofs.Parts.{behind, length_fit, get_d_fit}
@@ -23,6 +23,18 @@ number16_bytes16 n h = from_be_bytes-to_be_bytes_2 n h
 pub number32_bytes32 : (n : ℕ) → n < 2 ^ 32 → number32 (bytes32 n) ≡ n
 unfolding bytes32 number32
 number32_bytes32 n h = from_be_bytes-to_be_bytes_4 n h
+
+get_d_bytes_at : (i n k : ℕ) (bs : List ℕ) → k < n → get_or (bytes_at i n bs) k 0 ≡ get_or bs (i + k) 0
+get_d_bytes_at i n k bs h = get_or-take n (drop i bs) k 0 h ∙ get_or-drop i bs k 0
+
+pub number16_at : (i : ℕ) (bs : List ℕ) → number16 (bytes_at i 2 bs) ≡ get_or bs i 0 * 256 + get_or bs (i + 1) 0
+unfolding number16
+number16_at i bs = omega (arith, get_d_bytes_at i 2 0 bs (omega arith), get_d_bytes_at i 2 1 bs (omega arith), ap (λ k. get_or bs k 0) (add-zero i))
+
+pub number32_at : (i : ℕ) (bs : List ℕ) → number32 (bytes_at i 4 bs) ≡ get_or bs i 0 * 16777216 + get_or bs (i + 1) 0 * 65536 + get_or bs (i + 2) 0 * 256 + get_or bs (i + 3) 0
+unfolding number32
+number32_at i bs =
+    omega (arith, get_d_bytes_at i 4 0 bs (omega arith), get_d_bytes_at i 4 1 bs (omega arith), get_d_bytes_at i 4 2 bs (omega arith), get_d_bytes_at i 4 3 bs (omega arith), ap (λ k. get_or bs k 0) (add-zero i))
 
 module _ {X : Type 0} (f : X → List ℕ) (n : ℕ) (len : (x : X) → length (f x) ≡ n) where
   pub length_joined : (xs : List X) → length (flat_map f xs) ≡ n * length xs

@@ -1,5 +1,5 @@
 -- Parts of lists, and lists of a fixed length.
-use Rattle.std.proofs.Common.{◌≡◌, ℕ, zero, suc, ◌+◌, ◌-◌, ◌<◌, ◌≤◌, min, List, [], ◌∷◌, ◌++◌, length, get_or, take, drop, replicate, sym, refl, ap, ◌∙◌, ⊎_elim, arith}
+use Rattle.std.proofs.Common.{◌≡◌, ℕ, zero, suc, ◌+◌, ◌-◌, ◌<◌, ◌≤◌, min, List, [], ◌∷◌, ◌++◌, length, get_or, take, drop, replicate, sym, refl, ap, ◌∙◌, ⊎_elim, zero-add, arith}
 use lib.Seq.{drop-append-add, take-append-add}
 use Rattle.std.proofs.lemmas.List.{length-append, length-take, length-replicate, take_all, take_at, take-take, drop_all, drop-drop, drop-take, append-nil, get_or-take, get_or_past, take-append-le, take-replicate, drop-replicate}
 use Rattle.std.proofs.lemmas.Bool.{cases_lt}
@@ -63,3 +63,11 @@ part_within a n i k bs h =
     let inner : drop i (take n (drop a bs)) ≡ take (n - i) (drop (a + i) bs) =
     ap (λ l. drop i (take l (drop a bs))) (sym m) ∙ drop-take i (n - i) (drop a bs) ∙ ap (take (n - i)) (drop-drop i a bs) in
     ap (take k) inner ∙ take-take k (n - i) (drop (a + i) bs) (omega arith)
+
+-- and past them
+pub part_past : (a n i k : ℕ) (bs : List ℕ) → n ≤ i → bytes_at i k (bytes_at a n bs) ≡ []
+part_past a n i k bs h = ap (take k) (drop_all i (bytes_at a n bs) (omega (arith, length-take n (drop a bs)))) ∙ take_all k [] (omega arith)
+
+-- a part of the first n bytes
+pub part_of_front : (n i k : ℕ) (bs : List ℕ) → i + k ≤ n → bytes_at i k (bytes_at 0 n bs) ≡ bytes_at i k bs
+part_of_front n i k bs h = part_within 0 n i k bs h ∙ ap (λ j. bytes_at j k bs) (zero-add i)

@@ -18,7 +18,7 @@ put_is a e xs ys zs p q =
 
 module _ (a : ℕ) (old : List ℕ) (within : a ≤ length old) where
   -- a write, and one right after it
-  patched_patched : (xs ys : List ℕ) (n : ℕ) → length xs ≡ n → patched (a + n) ys (patched a xs old) ≡ patched a (xs ++ ys) old
+  pub patched_patched : (xs ys : List ℕ) (n : ℕ) → length xs ≡ n → patched (a + n) ys (patched a xs old) ≡ patched a (xs ++ ys) old
   unfolding patched
   patched_patched xs ys n e =
       let at : length (take a old ++ xs) ≡ a + n = length-append (take a old) xs ∙ omega (arith, length-take-le a old within) in
@@ -65,7 +65,7 @@ module _ (i : ℕ) (new bs : List ℕ) (within : i + length new ≤ length bs) w
     patched_beside = ⊎_elim before after
 
 -- nothing is left of the old bytes
-patched_whole : (new old : List ℕ) → length new ≡ length old → patched 0 new old ≡ new
+pub patched_whole : (new old : List ℕ) → length new ≡ length old → patched 0 new old ≡ new
 unfolding patched
 patched_whole new old e = ap (λ l. new ++ l) (drop_all (0 + length new) old (omega arith)) ∙ append-nil new
 

@@ -1,11 +1,12 @@
 -- The bytes before the first zero.
-use Rattle.std.proofs.Common.{◌≡◌, ℕ, zero, suc, ◌+◌, ◌<◌, ◌≤◌, List, [], ◌∷◌, ◌++◌, length, take, replicate, ⊎_elim, refl, ap, ◌∙◌, Option, Some, None, cond, ltb, eqb, arith}
+use Rattle.std.proofs.Common.{◌≡◌, ℕ, zero, suc, ◌+◌, ◌<◌, ◌≤◌, List, [], ◌∷◌, ◌++◌, length, take, replicate, ⊎_elim, sym, refl, ap, ◌∙◌, Option, Some, None, cond, ◌&&◌, ltb, eqb, arith}
 use Rattle.std.specs.List.{AllByRecursion, position, position_or_len}
 use Rattle.std.specs.Option.{unwrap_or}
+use Rattle.std.specs.Str.{bytes_eq}
 use Rattle.std.proofs.lemmas.List.Recursion.{is_position_or_len}
 use Rattle.std.proofs.lemmas.Bool.{cases_lt, lt-ltb, le-ltb}
 use Rattle.std.proofs.lemmas.Bool.Decides.{nat_tests}
-use Rattle.layout.specs.Numbers.{fit}
+use Rattle.layout.specs.Numbers.{all_zero, fit}
 use Rattle.layout.specs.Entries.{until_zero}
 
 pub take_until_zero : (bs : List ℕ) → take (length (until_zero bs)) bs ≡ until_zero bs
@@ -41,3 +42,11 @@ until_cut (suc n) (suc b ∷ bs) zs h l = ap (λ r. suc b ∷ r) (until_cut n bs
 pub until_fit : (n : ℕ) (bs : List ℕ) → AllByRecursion (λ b. 0 < b) bs → length bs ≤ n → until_zero (fit (suc n) 0 bs) ≡ bs
 unfolding fit
 until_fit n bs h l = until_cut (suc n) bs (replicate n 0) h (omega arith)
+
+-- n bytes are equal to n zeros exactly if each is zero
+pub equal_zeros : (n : ℕ) (bs : List ℕ) → length bs ≡ n → bytes_eq bs (replicate n 0) ≡ all_zero bs
+equal_zeros n bs long = ap (λ k. bytes_eq bs (replicate k 0)) (sym long) ∙ by bs
+  where
+    by : (bs : List ℕ) → bytes_eq bs (replicate (length bs) 0) ≡ all_zero bs
+    by [] = refl
+    by (b ∷ bs) = ap (λ t. eqb b 0 && t) (by bs)

@@ -6,7 +6,7 @@ ghost use Rattle.layout.specs.Entries.{shown, empty_entry, entry_bytes, entry_at
 ghost use Rattle.layout.specs.Supers.{legal_super};
 
 use crate::entry::{ENTRY_LEN, Entry, EntryView};
-use crate::numbers::{get, is_all_zero, nth_number, put};
+use crate::numbers::{get, nth_number, put};
 use crate::super_block::NUMBERS_LEN;
 use device::fault::BLOCK_LEN;
 use std::error::Error;
@@ -171,7 +171,7 @@ impl<'a> BlockView<'a> {
     }
 
     /// Whether the block is a super, whatever its numbers are. The tag is compared as a number: one is asked for, and a block may
-    /// hold any.
+    /// hold any. The bytes behind the numbers are compared with zeros: a test of each takes four times as long.
     pub fn is_legal_super(&self) -> bool
         ensures { result ≡ legal_super self.now.bytes.now }
     {
@@ -179,6 +179,6 @@ impl<'a> BlockView<'a> {
         self.pad_is_legal()
             && self.tag() == u16::from(Tag::Super)
             && self.owner() == 0
-            && is_all_zero(&bytes[NUMBERS_LEN..BODY_LEN])
+            && bytes[NUMBERS_LEN..BODY_LEN] == [0; BODY_LEN - NUMBERS_LEN]
     }
 }

@@ -1,7 +1,9 @@
-use Rattle.std.proofs.Common.{◌≡◌, ◌&&◌, nat_eq, refl, ap, ap₂, ◌∙◌}
+use Rattle.std.proofs.Common.{rules, ◌≡◌, ◌&&◌, nat_eq, refl, ap, ap₂, ◌∙◌}
 use Rattle.layout.specs.Blocks.{legal_pad, pad_of, tag_of, owner_of}
+use Rattle.layout.specs.Numbers.{bytes_at}
 use Rattle.layout.specs.Supers.{legal_super}
 use Rattle.layout.proofs.Tests.{goes_on, stops}
+use Rattle.layout.proofs.Words.{equal_zeros}
 use Rattle.layout.proofs.block.BlockView.is_legal_super.Goals as goal
 use Rattle.layout.proofs.block.BlockView.is_legal_super.Goals.{then-pad_is_legal, else-pad_is_legal, then-tag-from, else-tag-from}
 
@@ -17,7 +19,7 @@ returns-then-owner-eq0 c =
       | then-tag-from w ↦ goes_on tagged w.if-tag-from.true (w.value-is ∙ ap (λ n. nat_eq n 0) w.owner.ensures)
       | else-tag-from w ↦ stops tagged _ w.if-tag-from.false w.value-is
     ] in
-    goes_on owned c.if-owner-eq0.true c.is_all_zero.ensures
+    goes_on owned c.if-owner-eq0.true (c.eq.ensures ∙ equal_zeros 480 (bytes_at 24 480 b) (search rules))
 
 pub returns-else-owner-eq0 : goal.returns-else-owner-eq0
 unfolding legal_super
