@@ -50,7 +50,7 @@ row_roomy c =
     by true = refl
     by false = row_append c (frees 7)
 
-row_make : (x : Spot) (c : Plain) → row (make_in x c) ≡ lowest (row c) x
+pub row_make : (x : Spot) (c : Plain) → row (make_in x c) ≡ lowest (row c) x
 row_make x c =
     row_set (roomy c) (first_free (roomy c)) x
     ∙ ap (λ i. set (row (roomy c)) i x) (row_free (roomy c))

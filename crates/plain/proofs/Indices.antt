@@ -9,6 +9,14 @@ index f [] = 0
 index f (x ∷ xs) = cond (f x) 0 (suc (index f xs))
 
 module _ {X : Type 0} (f : X → Bool) (d : X) where
+  pub index_bound : (xs : List X) → index f xs ≤ length xs
+  index_bound [] = omega arith
+  index_bound (x ∷ xs) = by (f x) (index_bound xs)
+    where
+      by : (t : Bool) → index f xs ≤ length xs → cond t 0 (suc (index f xs)) ≤ suc (length xs)
+      by true h = omega arith
+      by false h = omega arith
+
   -- what stands there passes
   pub index_passes : (xs : List X) → index f xs < length xs → f (get_or xs (index f xs) d) ≡ true
   index_passes [] h = absurd (omega arith)

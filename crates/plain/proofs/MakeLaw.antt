@@ -26,7 +26,7 @@ pub record MadeAt (is_dir : Bool) (path : List ℕ) (t t' : Tree) : Type 0 where
   pub head : Dir
   pub places : Plain
   pub leads : walk ns (root_place t) ≡ deep name head tt places
-  absent : named n places ≡ 0
+  pub absent : named n places ≡ 0
   pub room : used places ≡ 42 → ⊥
   pub is : t' ≡ inside ns (make_in (new_node is_dir n t.next_qid)) (t.next_qid + 1) t
 
@@ -77,7 +77,7 @@ module _ (c : Plain) where
       (λ (h : size c ≤ first_free c). subst (λ b. P (cond b c (append c (frees 7)))) (sym (le-ltb (first_free c) (size c) h)) (no' h))
       (cases_lt (first_free c) (size c))
 
-  roomy_found : (x : List ℕ) → at (roomy c) (find x (roomy c)) ≡ at c (find x c)
+  pub roomy_found : (x : List ℕ) → at (roomy c) (find x (roomy c)) ≡ at c (find x c)
   roomy_found x =
       by_room (λ k. at k (find x k) ≡ at c (find x c)) (λ h. refl)
       (λ h.
@@ -86,7 +86,7 @@ module _ (c : Plain) where
       ∙ index_more (has_name x) (flat free) (row c) (row (frees 7)) (frees_named x 7)
       ∙ sym (found x c))
 
-  roomy_named : (x : List ℕ) → named x (roomy c) ≡ named x c
+  pub roomy_named : (x : List ℕ) → named x (roomy c) ≡ named x c
   roomy_named x =
       by_room (λ k. named x k ≡ named x c) (λ h. refl)
       (λ h.
@@ -94,7 +94,7 @@ module _ (c : Plain) where
       ∙ ap (count_by (has_name x)) (row_append c (frees 7))
       ∙ omega (arith, sum_by-append (λ p. cond (has_name x p) 1 0) (row c) (row (frees 7)), frees_named x 7, row_named x c))
 
-  roomy_free : first_free (roomy c) < size (roomy c)
+  pub roomy_free : first_free (roomy c) < size (roomy c)
   roomy_free =
       by_room (λ k. first_free k < size k) (λ h. h)
       (λ h.
@@ -103,7 +103,7 @@ module _ (c : Plain) where
       omega (arith, a, row_free (append c (frees 7)), row_size (append c (frees 7)), ap length r, ap (index is_free_place) r, length-append (row c) (row (frees 7))))
 
   -- what is in the lowest empty place
-  roomy_empty : at (roomy c) (first_free (roomy c)) ≡ flat free
+  pub roomy_empty : at (roomy c) (first_free (roomy c)) ≡ flat free
   roomy_empty =
       let k = roomy c in
       let h : index is_free_place (row k) < length (row k) = rw (← row_free k, ← row_size k) roomy_free in

@@ -1,20 +1,20 @@
 -- How a text of names comes apart at its slashes.
-use Rattle.std.proofs.Common.{◌<◌, ◌≡◌, ℕ, ◌*◌, ◌≤◌, Bool, true, false, cond, ◌&&◌, eqb, leb, ◌⊎◌, List, [], ◌∷◌, ◌++◌, length, drop, is_some, Some, None, Option, sym, refl, ap, ◌∙◌, subst, inl, inr, ⊎_elim, arith}
+use Rattle.std.proofs.Common.{◌<◌, ◌≡◌, ℕ, ◌+◌, ◌*◌, ◌≤◌, Bool, true, false, cond, ◌&&◌, eqb, leb, ltb, ◌⊎◌, List, [], ◌∷◌, ◌++◌, length, get_or, take, drop, is_some, Some, None, Option, sym, refl, ap, ◌∙◌, subst, inl, inr, ⊎_elim, arith}
 use Rattle.std.specs.Option.{option_map}
-use Rattle.std.specs.List.{list_all, onto_first, slice_split}
+use Rattle.std.specs.List.{list_all, enumerate_from, onto_first, slice_split}
 use Rattle.std.proofs.lemmas.List.Splits.{length-slice_split}
-use Rattle.std.proofs.lemmas.List.{length-append, drop_at}
-use Rattle.std.proofs.lemmas.Bool.{false≢true, and_parts, and_left, and_right, ne_eqb, eqb-true, le-leb, leb-true}
+use Rattle.std.proofs.lemmas.List.{length-append, length-take, drop_at, drop_more}
+use Rattle.std.proofs.lemmas.Bool.{false≢true, and_parts, and_from, and_left, and_right, eq-eqb, ne_eqb, eqb-true, le-leb, leb-true, lt-ltb, le-ltb, lt-leb, cases_lt}
 use Rattle.plain.specs.Names.{is_name, name_byte}
 use Rattle.plain.specs.Paths.{pieces, names_in, at_most_eight, is_root, path_of, names_text, path_text}
 
 -- the bytes before the first slash
-abbrev first_piece : List ℕ → List ℕ
+abbrev pub first_piece : List ℕ → List ℕ
 first_piece [] = []
 first_piece (b ∷ bs) = cond (eqb b 47) [] (b ∷ first_piece bs)
 
 -- the text from the first slash on
-abbrev from_slash : List ℕ → List ℕ
+abbrev pub from_slash : List ℕ → List ℕ
 from_slash bs = drop (length (first_piece bs)) bs
 
 -- the pieces of a text that is empty or begins with a slash
@@ -38,6 +38,27 @@ split_names bs =
         some false = refl
     by ps false h = sym (and_right _ false refl)
 
+-- parts that are numbered from k on are names before the eighth, or there are too many
+pub numbered_names : (k : ℕ) (ps : List (List ℕ)) → k ≤ 8 → list_all (λ p. ltb p.0 8 && is_name p.1) (enumerate_from k ps) ≡ (leb (k + length ps) 8 && list_all is_name ps)
+numbered_names k [] h = sym (ap (λ t. t && true) (le-leb (k + 0) 8 (omega (arith, h))))
+numbered_names k (p ∷ ps) h = ⊎_elim (few (λ lt. numbered_names (k + 1) ps (omega (arith, lt)))) many (cases_lt k 8)
+  where
+    swap : (t u v : Bool) → (t && (u && v)) ≡ (u && (t && v))
+    swap true u v = refl
+    swap false true v = refl
+    swap false false v = refl
+
+    few : (k < 8 → list_all (λ p. ltb p.0 8 && is_name p.1) (enumerate_from (k + 1) ps) ≡ (leb (k + 1 + length ps) 8 && list_all is_name ps)) → k < 8
+        → list_all (λ p. ltb p.0 8 && is_name p.1) (enumerate_from k (p ∷ ps)) ≡ (leb (k + length (p ∷ ps)) 8 && list_all is_name (p ∷ ps))
+    few next lt =
+        ap (λ t. t && is_name p && list_all (λ p. ltb p.0 8 && is_name p.1) (enumerate_from (k + 1) ps)) (lt-ltb k 8 lt)
+        ∙ ap (λ t. is_name p && t) (next lt)
+        ∙ swap (is_name p) (leb (k + 1 + length ps) 8) (list_all is_name ps)
+        ∙ ap (λ n. leb n 8 && (is_name p && list_all is_name ps)) (omega arith)
+
+    many : 8 ≤ k → list_all (λ p. ltb p.0 8 && is_name p.1) (enumerate_from k (p ∷ ps)) ≡ (leb (k + length (p ∷ ps)) 8 && list_all is_name (p ∷ ps))
+    many ge = ap (λ t. t && is_name p && list_all (λ p. ltb p.0 8 && is_name p.1) (enumerate_from (k + 1) ps)) (le-ltb k 8 ge) ∙ ap (λ t. t && list_all is_name (p ∷ ps)) (sym (lt-leb (k + length (p ∷ ps)) 8 (omega (arith, ge))))
+
 pieces_are : (bs : List ℕ) → pieces bs ≡ first_piece bs ∷ later (from_slash bs)
 pieces_are [] = refl
 pieces_are (b ∷ bs) = by (pieces_are bs) (eqb b 47)
@@ -56,10 +77,10 @@ slash_next (b ∷ bs) = by (slash_next bs) (eqb b 47) refl
     by h false e = h
 
 -- a name in front of others, if it is one
-abbrev cons_name : List ℕ → Option (List (List ℕ)) → Option (List (List ℕ))
+abbrev pub cons_name : List ℕ → Option (List (List ℕ)) → Option (List (List ℕ))
 cons_name n ns = cond (is_name n) (option_map (λ l. n ∷ l) ns) None
 
-names_step : (bs : List ℕ) → names_in (47 ∷ bs) ≡ cons_name (first_piece bs) (names_in (from_slash bs))
+pub names_step : (bs : List ℕ) → names_in (47 ∷ bs) ≡ cons_name (first_piece bs) (names_in (from_slash bs))
 names_step bs = ap (λ ps. cond (list_all is_name ps) (Some ps) None) (pieces_are bs) ∙ ⊎_elim none some (slash_next bs)
   where
     by : (t u : Bool) (n : List ℕ) (ps : List (List ℕ)) → cond (t && u) (Some (n ∷ ps)) None ≡ cond t (option_map (λ l. n ∷ l) (cond u (Some ps) None)) None
@@ -74,6 +95,10 @@ names_step bs = ap (λ ps. cond (list_all is_name ps) (Some ps) None) (pieces_ar
     some : (cs : List ℕ) × (from_slash bs ≡ 47 ∷ cs) →
         cond (list_all is_name (first_piece bs ∷ later (from_slash bs))) (Some (first_piece bs ∷ later (from_slash bs))) None ≡ cons_name (first_piece bs) (names_in (from_slash bs))
     some p = rw p.1 (by (is_name (first_piece bs)) (list_all is_name (pieces p.0)) (first_piece bs) (pieces p.0))
+
+-- a text that does not begin with a slash has no names
+pub names_not : (b : ℕ) (bs : List ℕ) → eqb b 47 ≡ false → names_in (b ∷ bs) ≡ None
+names_not b bs e = rw e
 
 -- a piece without a slash, before one or the end
 free_of_slash : (n rest : List ℕ) → list_all name_byte n ≡ true → (rest ≡ []) ⊎ ((cs : List ℕ) × (rest ≡ 47 ∷ cs)) → first_piece (n ++ rest) ≡ n
@@ -91,7 +116,7 @@ names_text_lem [] = inl refl
 names_text_lem (n ∷ ns) = inr (n ++ names_text ns, refl)
 
 -- the names that a text of names has are those
-text_names : (ns : List (List ℕ)) → list_all is_name ns ≡ true → names_in (names_text ns) ≡ Some ns
+pub text_names : (ns : List (List ℕ)) → list_all is_name ns ≡ true → names_in (names_text ns) ≡ Some ns
 text_names [] h = refl
 text_names (n ∷ ns) h =
     let p = and_parts (is_name n) (list_all is_name ns) h in
@@ -102,6 +127,26 @@ text_names (n ∷ ns) h =
     ∙ ap (λ x. cons_name n (names_in x)) (drop_at n (names_text ns) (length n) refl)
     ∙ ap (cons_name n) (text_names ns p.1)
     ∙ rw p.0
+
+-- a search for the first slash, at place i of a text
+module _ (text : List ℕ) (i : ℕ) (h : i < length text) where
+  pub piece_more : (get_or text i 0 ≡ 47 → ⊥) → length (first_piece (drop i text)) ≡ length (first_piece (drop (i + 1) text)) + 1
+  piece_more ne = let e = ne_eqb (get_or text i 0) 47 ne in rw (drop_more text i 0 h, e) (omega arith)
+
+  pub piece_stops : get_or text i 0 ≡ 47 → length (first_piece (drop i text)) ≡ 0
+  piece_stops is = let e = eq-eqb (get_or text i 0) 47 is in rw (drop_more text i 0 h, e)
+
+-- the first piece is the front of a text
+pub piece_front : (bs : List ℕ) → take (length (first_piece bs)) bs ≡ first_piece bs
+piece_front [] = refl
+piece_front (b ∷ bs) = by (piece_front bs) (eqb b 47)
+  where
+    by : take (length (first_piece bs)) bs ≡ first_piece bs → (t : Bool) → take (length (cond t [] (b ∷ first_piece bs))) (b ∷ bs) ≡ cond t [] (b ∷ first_piece bs)
+    by h true = refl
+    by h false = ap (λ l. b ∷ l) h
+
+pub piece_short : (bs : List ℕ) → length (first_piece bs) ≤ length bs
+piece_short bs = omega (arith, ap length (piece_front bs), length-take (length (first_piece bs)) bs)
 
 -- the text of its pieces is the text
 pieces_text : (bs : List ℕ) → names_text (pieces bs) ≡ 47 ∷ bs
@@ -124,7 +169,7 @@ names_short (n ∷ ns) h =
     omega (arith, names_short ns p.1, leb-true _ _ r.1, length-append n (names_text ns))
 
 -- a path has at most 224 bytes
-path_short : (text : List ℕ) → is_some (path_of text) ≡ true → length text ≤ 224
+pub path_short : (text : List ℕ) → is_some (path_of text) ≡ true → length text ≤ 224
 path_short text h = by (is_root text) refl h
   where
     some : (text : List ℕ) → is_some (at_most_eight (names_in text)) ≡ true → length text ≤ 224
@@ -152,6 +197,17 @@ path_long text h = by (path_of text) refl
     by : (o : Option (List (List ℕ))) → path_of text ≡ o → o ≡ None
     by None e = refl
     by (Some ns) e = absurd (omega (arith, h, path_short text (ap is_some e)))
+
+pub is_root_lem : (text : List ℕ) → length text ≡ 1 → get_or text 0 0 ≡ 47 → is_root text ≡ true
+is_root_lem [] n b = absurd (omega arith)
+is_root_lem (x ∷ []) n b = and_from _ _ (eq-eqb x 47 b) refl
+is_root_lem (x ∷ y ∷ l) n b = absurd (omega arith)
+
+-- one name more was counted
+pub count_more : (k : ℕ) (n : List ℕ) (o : Option (List (List ℕ))) →
+    option_map (λ j. k + j) (option_map length (option_map (λ l. n ∷ l) o)) ≡ option_map (λ j. k + 1 + j) (option_map length o)
+count_more k n None = refl
+count_more k n (Some ns) = ap Some (omega arith)
 
 -- the names of a path are legal, at most eight, and their text is the path's
 pub record IsPath (text : List ℕ) (ns : List (List ℕ)) : Type 0 where

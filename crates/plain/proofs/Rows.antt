@@ -60,7 +60,7 @@ module _ {W : Type 0} where
   row_append (leaf l k) e = ap (λ r. flat l ∷ r) (row_append k e)
   row_append (dir n d w c k) e = ap (λ r. deep n d w c ∷ r) (row_append k e)
 
-  row_frees : (n : ℕ) → row (frees n) ≡ replicate n (flat free)
+  pub row_frees : (n : ℕ) → row (frees n) ≡ replicate n (flat free)
   row_frees zero = refl
   row_frees (suc n) = ap (λ r. flat free ∷ r) (row_frees n)
 

@@ -1,5 +1,5 @@
 //! Theorems about paths, the plain tree and the reference model, and the examples that they are tried on.
-ghost use Rattle.std.specs.Prelude.{◌≡◌};
+ghost use Rattle.std.specs.Prelude.{◌≡◌, take};
 ghost use Rattle.std.specs.Str.{bytes_eq};
 ghost use Rattle.plain.specs.declared.name.Name as name;
 ghost use Rattle.plain.specs.declared.path.Path as path;
@@ -16,8 +16,8 @@ pub fn path_laws_hold()
 
 /// Two names are equal exactly if their bytes are, and two paths too.
 pub fn equalities_hold()
-    ensures names { (a b : name.Name) → ⟦<Name as PartialEq>⟧.eq a b ≡ bytes_eq a.text b.text }
-    ensures paths { (a b : path.Path) → ⟦<Path as PartialEq>⟧.eq a b ≡ bytes_eq a.text b.text }
+    ensures names { (a b : name.Name) → ⟦<Name as PartialEq>⟧.eq a b ≡ bytes_eq (take a.text.len a.text.bytes) (take b.text.len b.text.bytes) }
+    ensures paths { (a b : path.Path) → ⟦<Path as PartialEq>⟧.eq a b ≡ bytes_eq (take a.text.len a.text.bytes) (take b.text.len b.text.bytes) }
 {}
 
 /// Read, stat and entry tell no more of a path than its sight: a file, or a directory with its names.

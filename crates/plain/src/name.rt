@@ -1,5 +1,5 @@
 //! Names of files and directories.
-ghost use Rattle.std.specs.Prelude.{◌≡◌, true, false, Some, codes, MatchResult};
+ghost use Rattle.std.specs.Prelude.{◌≡◌, true, false, take, Some, codes, MatchOption, MatchResult};
 ghost use Rattle.plain.specs.Names.{is_name, name_byte};
 
 use crate::text::Text;
@@ -13,7 +13,7 @@ pub const NAME_MOST: usize = 27;
 #[derive(Clone, Copy, PartialEq, Eq, Debug)]
 pub struct Name {
     text: Text<NAME_MOST>,
-    ghost legal: { is_name text ≡ true },
+    ghost legal: { is_name (take text.len text.bytes) ≡ true },
 }
 
 /// The bytes are no name.
@@ -30,24 +30,32 @@ impl fmt::Display for NotAName {
 
 impl Error for NotAName {}
 
-/// The bytes as a name, if they are one.
+/// The bytes as a name, or the error where they are none.
 impl TryFrom<&[u8]> for Name {
     type Error = NotAName;
 
-    ghost try_from_gives = { λ bytes read. MatchResult read (λ name. name.text ≡ bytes.now) (λ _. is_name bytes.now ≡ false) };
+    ghost try_from_gives = { λ bytes read. MatchResult read (λ name. take name.text.len name.text.bytes ≡ bytes.now) (λ _. is_name bytes.now ≡ false) };
 
     fn try_from(bytes: &[u8]) -> Result<Name, NotAName> {
-        match Text::new(bytes) {
-            Some(text) if is_name(text.as_bytes()) => Ok(Name { text }),
-            _ => Err(NotAName),
-        }
+        Name::new(bytes).ok_or(NotAName)
     }
 }
 
 impl Name {
+    /// The bytes as a name, if they are one. Unlike `try_from`, it takes a `b"name"` too.
+    pub fn new(bytes: &[u8]) -> Option<Name>
+        ensures { MatchOption result (is_name bytes.now ≡ false) (λ name. take name.text.len name.text.bytes ≡ bytes.now) }
+    {
+        if !is_name(bytes) {
+            return None;
+        }
+        let text = Text::new(bytes).unwrap();
+        Some(Name { text })
+    }
+
     /// The bytes of the name, which are always a name's.
     pub fn as_bytes(&self) -> &[u8]
-        ensures bytes { result.now ≡ self.now.text }
+        ensures bytes { result.now ≡ take self.now.text.len self.now.text.bytes }
         ensures legal { is_name result.now ≡ true }
     {
         self.text.as_bytes()

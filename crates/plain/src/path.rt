@@ -1,5 +1,5 @@
 //! Paths: "/" alone, or 1 to 8 names each after a "/".
-ghost use Rattle.std.specs.Prelude.{◌≡◌, ◌∷◌, true, is_some, None, MatchResult};
+ghost use Rattle.std.specs.Prelude.{◌≡◌, ◌∷◌, true, take, is_some, None, MatchResult};
 ghost use Rattle.plain.specs.Paths.{path_of, names_in, at_most_eight};
 ghost use Rattle.plain.specs.Refusals.{shown, row};
 
@@ -17,27 +17,38 @@ const PATH_MOST: usize = NAMES_MOST * (NAME_MOST + 1);
 #[derive(Clone, Copy, PartialEq, Eq, Debug)]
 pub struct Path {
     text: Text<PATH_MOST>,
-    ghost legal: { is_some (path_of text) ≡ true },
+    ghost legal: { is_some (path_of (take text.len text.bytes)) ≡ true },
 }
 
 /// The path that a text is.
 impl TryFrom<&[u8]> for Path {
     type Error = TreeFault;
 
-    ghost try_from_gives = { λ text read. MatchResult read (λ path. path.text ≡ text.now) (λ e. (shown e ≡ row 11) × (path_of text.now ≡ None)) };
+    ghost try_from_gives = { λ text read. MatchResult read (λ path. take path.text.len path.text.bytes ≡ text.now) (λ e. (shown e ≡ row 11) × (path_of text.now ≡ None)) };
 
     fn try_from(text: &[u8]) -> Result<Path, TreeFault> {
-        match Text::new(text) {
-            Some(text) if is_path(text.as_bytes()) => Ok(Path { text }),
-            _ => Err(TreeFault::MalformedPath),
-        }
+        Path::parse(text)
     }
 }
 
 impl Path {
+    /// The path that a text is. Unlike `try_from`, it takes a `b"/path"` too.
+    pub fn parse(text: &[u8]) -> Result<Path, TreeFault>
+        ensures { MatchResult result (λ path. take path.text.len path.text.bytes ≡ text.now) (λ e. (shown e ≡ row 11) × (path_of text.now ≡ None)) }
+    {
+        let Some(text) = Text::new(text) else {
+            return Err(TreeFault::MalformedPath);
+        };
+        if is_path(text.as_bytes()) {
+            Ok(Path { text })
+        } else {
+            Err(TreeFault::MalformedPath)
+        }
+    }
+
     /// The text of the path, which is always one.
     pub fn as_bytes(&self) -> &[u8]
-        ensures text { result.now ≡ self.now.text }
+        ensures text { result.now ≡ take self.now.text.len self.now.text.bytes }
         ensures legal { is_some (path_of result.now) ≡ true }
     {
         self.text.as_bytes()
@@ -58,6 +69,7 @@ fn is_path(text: &[u8]) -> bool
 fn are_names(text: &[u8]) -> bool
     ensures { result ≡ is_some (at_most_eight (names_in (47 ∷ text.now))) }
 {
-    let is_slash = |byte: &u8| *byte == b'/';
-    text.split(is_slash).count() <= NAMES_MOST && text.split(is_slash).all(is_name)
+    text.split(|byte| *byte == b'/')
+        .enumerate()
+        .all(|(i, name)| i < NAMES_MOST && is_name(name))
 }
