@@ -9,7 +9,7 @@ use Rattle.device.specs.declared.cell_state.CellState.{CellState}
 use Rattle.device.specs.declared.cell_state.CellState.TheVariants.{Blank, Held, Spoiled}
 use Rattle.device.specs.Refusals.{Answer, Outcome, shown, told, refused, admission}
 use Rattle.device.specs.Meaning.{Cell, blank, held, spoiled, Meaning, size, cell, put}
-use Rattle.device.specs.Calls.{state_of, read_state, write_state, contents, state_told, Reads, Writes}
+use Rattle.device.specs.Calls.{state_of, read_state, write_state, and_then, contents, state_told, Reads, Writes}
 
 -- what is admitted, at a size s that was worked out, has a whole buffer and a block within the device
 pub admitted : (m : Meaning) (s b n : ℕ) → s ≡ size m → ◌≡◌ {A = Outcome} (Ok tt) (admission m.label s b n) → (n ≡ 512) × (b < size m)
@@ -36,13 +36,26 @@ read_fills p spoiled r buf e = grind arith
 pub passed : (r : Answer) (e : DeviceFault) → IsErrAnd r (λ y. y ≡ e) → r ≡ Err e
 passed r e h = let p = err_from_is_err_and r h in p.1 ∙ ap Err p.2
 
--- a refusal e, by the cell, that `?` passes on as r
-module _ (m : Meaning) (i : ℕ) (buf : List ℕ) (r : Answer) (e : DeviceFault) (on : IsErrAnd r (λ y. y ≡ e)) (whole : length buf ≡ 512) (within : i < size m) where
-  pub read_refused : Err (shown e) ≡ read_state (m.place i) (state_of (cell m i)) → Reads m i buf r buf m
-  read_refused is = rw (passed r e on) (record { answer = is ∙ simp (admits m i (length buf) whole within); buffer = refl; same = refl })
+-- a refusal e that `?` passes on as r
+module _ (m : Meaning) (i : ℕ) (buf : List ℕ) (r : Answer) (e : DeviceFault) (on : IsErrAnd r (λ y. y ≡ e)) where
+  -- by the admission, at a size s that was worked out
+  module _ (s : ℕ) (sized : s ≡ size m) (is : Err (shown e) ≡ admission m.label s i (length buf)) where
+    bars : (o : Outcome) → Err (shown e) ≡ and_then (admission m.label (size m) i (length buf)) o
+    bars o = ap (λ x. and_then x o) (is ∙ ap (λ n. admission m.label n i (length buf)) sized)
 
-  pub write_refused : Err (shown e) ≡ write_state m.kind (m.place i) (state_of (cell m i)) → Writes m i buf r m
-  write_refused is = rw (passed r e on) (record { answer = is ∙ simp (admits m i (length buf) whole within); after = refl })
+    pub read_barred : Reads m i buf r buf m
+    read_barred = rw (passed r e on) (record { answer = bars _; buffer = refl; same = refl })
+
+    pub write_barred : Writes m i buf r m
+    write_barred = rw (passed r e on) (record { answer = bars _; after = refl })
+
+  -- by the cell
+  module _ (whole : length buf ≡ 512) (within : i < size m) where
+    pub read_refused : Err (shown e) ≡ read_state (m.place i) (state_of (cell m i)) → Reads m i buf r buf m
+    read_refused is = rw (passed r e on) (record { answer = is ∙ simp (admits m i (length buf) whole within); buffer = refl; same = refl })
+
+    pub write_refused : Err (shown e) ≡ write_state m.kind (m.place i) (state_of (cell m i)) → Writes m i buf r m
+    write_refused is = rw (passed r e on) (record { answer = is ∙ simp (admits m i (length buf) whole within); after = refl })
 
 -- a call that is admitted, with the answer r
 module _ (m : Meaning) (i : ℕ) (buf : List ℕ) (r : Answer) where
@@ -92,6 +105,11 @@ readable_held p Spoiled e = cc
 -- block i of a layer m that is block j of a device n below it, with the same cell and place
 module _ (m n : Meaning) (i j : ℕ) (buf : List ℕ) (r : Answer) (whole : length buf ≡ 512) (within : i < size m) (below : j < size n)
     (cells : cell m i ≡ cell n j) (places : m.place i ≡ n.place j) where
+  pub read_below : {buf' : List ℕ} {n' m' : Meaning} → m' ≡ m → Reads n j buf r buf' n' → Reads m i buf r buf' m'
+  read_below same h =
+      let o = read_out n j buf r whole below h in
+      read_in m i buf r whole within (rw (cells, places) o.0) (rw cells o.1) same
+
   -- a write, where F makes the layer of the device below
   pub write_below : {n' : Meaning} (F : Meaning → Meaning) → m.kind ≡ n.kind → F n ≡ m → F (put n j buf) ≡ put m i buf → Writes n j buf r n' → Writes m i buf r (F n')
   write_below F kinds before after h =
