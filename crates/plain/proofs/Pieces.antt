@@ -38,7 +38,7 @@ split_names bs =
         some false = refl
     by ps false h = sym (and_right _ false refl)
 
--- parts that are numbered from k on are names before the eighth, or there are too many
+-- parts that are numbered from k on have numbers below 8 and are names, exactly if all are names and there are at most 8 - k of them
 pub numbered_names : (k : ℕ) (ps : List (List ℕ)) → k ≤ 8 → list_all (λ p. ltb p.0 8 && is_name p.1) (enumerate_from k ps) ≡ (leb (k + length ps) 8 && list_all is_name ps)
 numbered_names k [] h = sym (ap (λ t. t && true) (le-leb (k + 0) 8 (omega (arith, h))))
 numbered_names k (p ∷ ps) h = ⊎_elim (few (λ lt. numbered_names (k + 1) ps (omega (arith, lt)))) many (cases_lt k 8)

@@ -25,7 +25,7 @@ filled n i bytes whole fits zeros =
     let long : length (take i bytes) ≡ i = length-take-le i bytes (omega (arith, whole, fits)) in
     sym (take-append-drop i bytes) ∙ ap (λ rest. take i bytes ++ rest) (zeros ∙ ap (λ k. replicate (n - k) 0) (sym long))
 
--- the same of two such buffers
+-- two such buffers, whose texts have i and j bytes, and their lengths are equal exactly if the texts are
 pub texts_equal : (n i j : ℕ) (v w : List ℕ) → length v ≡ n → length w ≡ n → i ≤ n → j ≤ n → drop i v ≡ replicate (n - i) 0 → drop j w ≡ replicate (n - j) 0
     → (bytes_eq v w && eqb i j) ≡ bytes_eq (take i v) (take j w)
 texts_equal n i j v w whole whole' fits fits' zeros zeros' =

@@ -1,5 +1,6 @@
-use Rattle.std.proofs.Common.{rules, ◌≡◌, ◌&&◌, nat_eq, refl, ap, ap₂, ◌∙◌}
+use Rattle.std.proofs.Common.{rules, arith, ◌≡◌, ◌&&◌, length, drop, nat_eq, refl, ap, ap₂, ◌∙◌}
 use Rattle.layout.specs.Blocks.{legal_pad, pad_of, tag_of, owner_of}
+use Rattle.std.proofs.lemmas.List.{length-take, length-drop}
 use Rattle.layout.specs.Numbers.{bytes_at}
 use Rattle.layout.specs.Supers.{legal_super}
 use Rattle.layout.proofs.Tests.{goes_on, stops}
@@ -19,7 +20,8 @@ returns-then-owner-eq0 c =
       | then-tag-from w ↦ goes_on tagged w.if-tag-from.true (w.value-is ∙ ap (λ n. nat_eq n 0) w.owner.ensures)
       | else-tag-from w ↦ stops tagged _ w.if-tag-from.false w.value-is
     ] in
-    goes_on owned c.if-owner-eq0.true (c.eq.ensures ∙ equal_zeros 480 (bytes_at 24 480 b) (search rules))
+    let long : length b ≡ 512 = search rules in
+    goes_on owned c.if-owner-eq0.true (c.eq.ensures ∙ equal_zeros 480 (bytes_at 24 480 b) (omega (arith, length-take 480 (drop 24 b), length-drop 24 b, long)))
 
 pub returns-else-owner-eq0 : goal.returns-else-owner-eq0
 unfolding legal_super
